@@ -1,0 +1,140 @@
+-- "Known ground": each case is what a definition gives, and what document 01 says it must be.
+use mathlib.Core.Bool.{Bool, true, false, cond, _&&_}
+use mathlib.Core.List.{List, [], _∷_, map}
+use Prim.Native.Nat.{ℕ, zero, suc}
+use lib.Dec.{eqb}
+use lib.ListN.{getD}
+use lib.IntN.{ℤ, pos, negsuc}
+use Rattle.grid.specs.declared.Grid.{Grid}
+use Rattle.grid.specs.Sheet.{gridOf, eqZ}
+use Rattle.grid.specs.Fill.{filled}
+use Rattle.grid.specs.Directions.{choice, directions}
+use Rattle.grid.specs.Routes.{counts, labels}
+use Rattle.grid.specs.Checks.{fillCheck, drainCheck, codesCheck}
+use Rattle.grid.specs.Frames.{programText}
+
+pub data Case : Type 0 where
+  numbers : List ℕ → List ℕ → Case
+  elevations : List ℤ → List ℤ → Case
+
+same : List ℕ → List ℕ → Bool
+same [] [] = true
+same [] (b ∷ m) = false
+same (a ∷ l) [] = false
+same (a ∷ l) (b ∷ m) = eqb a b && same l m
+
+sameZ : List ℤ → List ℤ → Bool
+sameZ [] [] = true
+sameZ [] (b ∷ m) = false
+sameZ (a ∷ l) [] = false
+sameZ (a ∷ l) (b ∷ m) = eqZ a b && sameZ l m
+
+holds : Case → Bool
+holds (numbers got said) = same got said
+holds (elevations got said) = sameZ got said
+
+unfoldable pub allHold : List Case → Bool
+unfolding same sameZ holds
+allHold [] = true
+allHold (k ∷ ks) = holds k && allHold ks
+
+-- ---- the sheets
+
+-- the frames of the printed example, line by line
+printed-input : List ℕ
+printed-input =
+    48 ∷ 48 ∷ 48 ∷ 51 ∷ 48 ∷ 48 ∷ 48 ∷ 51 ∷ 10 ∷
+    48 ∷ 48 ∷ 48 ∷ 53 ∷ 48 ∷ 48 ∷ 48 ∷ 53 ∷ 48 ∷ 48 ∷ 48 ∷ 53 ∷ 10 ∷
+    48 ∷ 48 ∷ 48 ∷ 53 ∷ 48 ∷ 48 ∷ 48 ∷ 49 ∷ 48 ∷ 48 ∷ 48 ∷ 52 ∷ 10 ∷
+    48 ∷ 48 ∷ 48 ∷ 53 ∷ 48 ∷ 48 ∷ 48 ∷ 53 ∷ 48 ∷ 48 ∷ 48 ∷ 53 ∷ 10 ∷ []
+
+-- what is printed for them
+printed-output : List ℕ
+printed-output =
+    48 ∷ 48 ∷ 48 ∷ 51 ∷ 48 ∷ 48 ∷ 48 ∷ 51 ∷ 10 ∷
+    48 ∷ 48 ∷ 48 ∷ 53 ∷ 48 ∷ 48 ∷ 48 ∷ 53 ∷ 48 ∷ 48 ∷ 48 ∷ 53 ∷ 10 ∷
+    48 ∷ 48 ∷ 48 ∷ 53 ∷ 48 ∷ 48 ∷ 48 ∷ 52 ∷ 48 ∷ 48 ∷ 48 ∷ 52 ∷ 10 ∷
+    48 ∷ 48 ∷ 48 ∷ 53 ∷ 48 ∷ 48 ∷ 48 ∷ 53 ∷ 48 ∷ 48 ∷ 48 ∷ 53 ∷ 10 ∷
+    50 ∷ 48 ∷ 56 ∷ 48 ∷ 48 ∷ 50 ∷ 10 ∷
+    50 ∷ 48 ∷ 48 ∷ 50 ∷ 48 ∷ 50 ∷ 10 ∷
+    50 ∷ 48 ∷ 48 ∷ 56 ∷ 48 ∷ 50 ∷ 10 ∷
+    48 ∷ 48 ∷ 48 ∷ 48 ∷ 48 ∷ 48 ∷ 48 ∷ 48 ∷ 48 ∷ 48 ∷ 48 ∷ 48 ∷ 48 ∷ 48 ∷ 48 ∷ 48 ∷ 48 ∷ 48 ∷ 48 ∷ 48 ∷ 48 ∷ 48 ∷ 48 ∷ 48 ∷ 10 ∷
+    48 ∷ 48 ∷ 48 ∷ 48 ∷ 48 ∷ 48 ∷ 48 ∷ 48 ∷ 48 ∷ 48 ∷ 48 ∷ 48 ∷ 48 ∷ 48 ∷ 48 ∷ 48 ∷ 48 ∷ 48 ∷ 48 ∷ 48 ∷ 48 ∷ 48 ∷ 48 ∷ 49 ∷ 10 ∷
+    48 ∷ 48 ∷ 48 ∷ 48 ∷ 48 ∷ 48 ∷ 48 ∷ 48 ∷ 48 ∷ 48 ∷ 48 ∷ 48 ∷ 48 ∷ 48 ∷ 48 ∷ 48 ∷ 48 ∷ 48 ∷ 48 ∷ 48 ∷ 48 ∷ 48 ∷ 48 ∷ 48 ∷ 10 ∷
+    48 ∷ 48 ∷ 48 ∷ 48 ∷ 48 ∷ 48 ∷ 48 ∷ 49 ∷ 48 ∷ 48 ∷ 48 ∷ 48 ∷ 48 ∷ 48 ∷ 48 ∷ 50 ∷ 48 ∷ 48 ∷ 48 ∷ 48 ∷ 48 ∷ 48 ∷ 48 ∷ 51 ∷ 10 ∷
+    48 ∷ 48 ∷ 48 ∷ 48 ∷ 48 ∷ 48 ∷ 48 ∷ 52 ∷ 48 ∷ 48 ∷ 48 ∷ 48 ∷ 48 ∷ 48 ∷ 48 ∷ 54 ∷ 48 ∷ 48 ∷ 48 ∷ 48 ∷ 48 ∷ 48 ∷ 48 ∷ 54 ∷ 10 ∷
+    48 ∷ 48 ∷ 48 ∷ 48 ∷ 48 ∷ 48 ∷ 48 ∷ 55 ∷ 48 ∷ 48 ∷ 48 ∷ 48 ∷ 48 ∷ 48 ∷ 48 ∷ 56 ∷ 48 ∷ 48 ∷ 48 ∷ 48 ∷ 48 ∷ 48 ∷ 48 ∷ 57 ∷ 10 ∷ []
+
+-- two rows of three voids
+voids : List ℤ
+voids =
+    negsuc 32767 ∷ negsuc 32767 ∷ negsuc 32767 ∷
+    negsuc 32767 ∷ negsuc 32767 ∷ negsuc 32767 ∷ []
+
+-- 3 by 3, where the middle cell of 100 drops only to the east and to the north-east, to these elevations
+between : ℤ → ℤ → List ℤ
+between east north-east =
+    pos 200 ∷ pos 200 ∷ north-east ∷
+    pos 200 ∷ pos 100 ∷ east ∷
+    pos 200 ∷ pos 200 ∷ pos 200 ∷ []
+
+-- the code of the middle cell
+middle : ℤ → ℤ → ℕ
+middle east north-east = getD (directions (gridOf 3 3) (between east north-east)) 4 0
+
+-- 5 by 5: border 9 but for 3 at row 2, column 4, inside all 3
+basin : List ℤ
+basin =
+    pos 9 ∷ pos 9 ∷ pos 9 ∷ pos 9 ∷ pos 9 ∷
+    pos 9 ∷ pos 3 ∷ pos 3 ∷ pos 3 ∷ pos 9 ∷
+    pos 9 ∷ pos 3 ∷ pos 3 ∷ pos 3 ∷ pos 3 ∷
+    pos 9 ∷ pos 3 ∷ pos 3 ∷ pos 3 ∷ pos 9 ∷
+    pos 9 ∷ pos 9 ∷ pos 9 ∷ pos 9 ∷ pos 9 ∷ []
+
+-- 5 by 5, void only in the middle
+hole : List ℤ
+hole =
+    pos 5 ∷ pos 5 ∷ pos 5 ∷ pos 5 ∷ pos 5 ∷
+    pos 5 ∷ pos 5 ∷ pos 5 ∷ pos 5 ∷ pos 5 ∷
+    pos 5 ∷ pos 5 ∷ negsuc 32767 ∷ pos 5 ∷ pos 5 ∷
+    pos 5 ∷ pos 5 ∷ pos 5 ∷ pos 5 ∷ pos 5 ∷
+    pos 5 ∷ pos 5 ∷ pos 5 ∷ pos 5 ∷ pos 5 ∷ []
+
+basinCodes : List ℕ
+basinCodes = directions (gridOf 5 5) basin
+
+-- ---- the table
+
+unfoldable pub knownGround : List Case
+unfolding printed-input printed-output voids between middle basin hole basinCodes
+knownGround =
+    -- P1: the printed example, from text to text
+    numbers (programText printed-input) printed-output
+    -- P2: a 1 by 1 sheet of 7
+    ∷ elevations (filled (gridOf 1 1) (pos 7 ∷ [])) (pos 7 ∷ [])
+    ∷ numbers (directions (gridOf 1 1) (pos 7 ∷ [])) (32 ∷ [])
+    ∷ numbers (counts (gridOf 1 1) (32 ∷ [])) (0 ∷ [])
+    ∷ numbers (labels (gridOf 1 1) (32 ∷ [])) (1 ∷ [])
+    -- P3: all voids: accepted, codes, counts, labels 0
+    ∷ numbers ((drainCheck (gridOf 2 3) 6 6 6 6 6 24) .number ∷ []) (0 ∷ [])
+    ∷ elevations (filled (gridOf 2 3) voids) voids
+    ∷ numbers (directions (gridOf 2 3) voids) (0 ∷ 0 ∷ 0 ∷ 0 ∷ 0 ∷ 0 ∷ [])
+    ∷ numbers (counts (gridOf 2 3) (0 ∷ 0 ∷ 0 ∷ 0 ∷ 0 ∷ 0 ∷ [])) (0 ∷ 0 ∷ 0 ∷ 0 ∷ 0 ∷ 0 ∷ [])
+    ∷ numbers (labels (gridOf 2 3) (0 ∷ 0 ∷ 0 ∷ 0 ∷ 0 ∷ 0 ∷ [])) (0 ∷ 0 ∷ 0 ∷ 0 ∷ 0 ∷ 0 ∷ [])
+    -- P4 side drop 2, corner 3: corner; P5 3 and 4: side; P6 5 and 7: side; P7 12 and 17: corner
+    ∷ numbers (middle (pos 98) (pos 97) ∷ []) (1 ∷ [])
+    ∷ numbers (middle (pos 97) (pos 96) ∷ []) (2 ∷ [])
+    ∷ numbers (middle (pos 95) (pos 93) ∷ []) (2 ∷ [])
+    ∷ numbers (middle (pos 88) (pos 83) ∷ []) (1 ∷ [])
+    -- P8: entries of the table
+    ∷ numbers (map choice (34 ∷ 7 ∷ 24 ∷ 138 ∷ 168 ∷ 255 ∷ [])) (2 ∷ 2 ∷ 8 ∷ 2 ∷ 32 ∷ 1 ∷ [])
+    -- P9: the outlet's count, and the code at row 2, column 2
+    ∷ elevations (filled (gridOf 5 5) basin) basin
+    ∷ numbers (getD (counts (gridOf 5 5) basinCodes) 14 0 ∷ getD basinCodes 12 0 ∷ []) (9 ∷ 2 ∷ [])
+    -- P10: the code at row 1, column 1
+    ∷ numbers (getD (directions (gridOf 5 5) hole) 6 0 ∷ []) (4 ∷ [])
+    -- "Rows 4,000 passes, 4,001 gets 5. Codes 2 and 32 side by side, facing each other, get 12"
+    ∷ numbers ((fillCheck (gridOf 4000 1) 4000 4000 16000) .number ∷ []) (0 ∷ [])
+    ∷ numbers ((fillCheck (gridOf 4001 1) 4001 4001 16004) .number ∷ []) (5 ∷ [])
+    ∷ numbers ((codesCheck (gridOf 1 2) (2 ∷ 32 ∷ []) 2 8) .number ∷ []) (12 ∷ [])
+    ∷ []
