@@ -1,0 +1,2 @@
+-- What a yes to 5 and 6 says of the sizes.
+pub mod Sizes
