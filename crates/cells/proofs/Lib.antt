@@ -1,0 +1,4 @@
+pub mod Codes
+pub mod Keys
+pub mod Steps
+pub mod Words

@@ -1,0 +1,4 @@
+pub mod Drops
+pub mod Entries
+pub mod Largest
+pub mod Table
