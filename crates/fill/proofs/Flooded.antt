@@ -1,0 +1,149 @@
+-- What the flood leaves is the filled sheet: the data cells, neighbours and outlets that it sees by keys are those of the elevations, so its state at the end is
+-- the certificate of fill_laws.
+use mathlib.Core.Path.{_≡_, refl, sym, _∙_, ap, subst}
+use mathlib.Core.Bool.{Bool, true, false, not}
+use mathlib.Core.Logic.{_⊎_, inl, inr, ⊎-elim}
+use mathlib.Core.List.{List}
+use Prim.Native.Nat.{ℕ, _+_, _*_, _≤_, _<_}
+use native.Mathlib.Omega.{arith}
+use native.Mathlib.Decide.{decLt}
+use lib.ListN.{length, getD}
+use lib.IntN.{ℤ}
+use lib.Dec.{T, ltb}
+use lib.Signed.{_≤ℤ_}
+use borrow.Author.Tests.{lt-ltb, ltb-true}
+use Rattle.grid.specs.declared.Grid.{Grid}
+use Rattle.grid.specs.Sheet.{size, void, higher, at, isData, DataCell, neighbour}
+use Rattle.grid.specs.Outlet.{isOutlet, leavesAt, Outlet}
+use Rattle.grid.specs.Fill.{filled}
+use Rattle.grid_laws.proofs.Tests.{test, T-true, true-T, true-false, not-true-false, not-of-false, not-is-true}
+use Rattle.grid_laws.proofs.Order.{≤ℤ-trans, ≤ℤ-of-eq, ≤-higher-left, ≤-higher-right}
+use Rattle.grid_laws.proofs.Cells.{InRange, on-sheet}
+use Rattle.grid_laws.proofs.Outlets.{leaves-no-data, outlet-data, outlet-leaves, leaves-outlet}
+use Rattle.cells.specs.Keys.{keyOf, levelOf}
+use Rattle.cells.proofs.Keys.{data-key, level-key, level-mono, level-void}
+use Rattle.key_sort.specs.Order.{Ahead}
+use Rattle.flood_laws.specs.Flood.{CellOf, NextTo, OutletOf, Between}
+use Rattle.flood_laws.proofs.Steps.{next-back}
+use Rattle.flood_laws.proofs.Marks.{at-most}
+use Rattle.fill_laws.specs.Filling.{Way, stop, step}
+use Rattle.fill_laws.specs.Certificate.{DataNeighbours, Certificate, FillCertificate}
+use Rattle.fill_laws.proofs.Left.{some-way}
+use Rattle.fill_laws.proofs.Certified.{certificate-filled}
+
+module _ (g : Grid) (e : List ℤ) (f : List ℕ) (cells : length e ≡ size g) (range : InRange e)
+    (keys : (c : ℕ) → c < size g → getD f c 0 ≡ keyOf (at e c)) where
+  -- ---- cells, neighbours and outlets by keys are those of the sheet
+  cell-to : (c : ℕ) → DataCell e c → CellOf (size g) f c
+  cell-to c t =
+      let d = T-true (isData e c) t in
+      let h = on-sheet g e cells c d in
+      (h, rw (keys c h) (ltb-true 0 (keyOf (at e c)) (sym (data-key e c (range c .0)) ∙ d)))
+
+  cell-from : (c : ℕ) → CellOf (size g) f c → DataCell e c
+  cell-from c t = true-T (data-key e c (range c .0) ∙ lt-ltb 0 (keyOf (at e c)) (rw (keys c (t .0)) at (t .1)))
+
+  next-to : (c m : ℕ) → DataNeighbours g e c m → NextTo g f c m
+  next-to c m b = (cell-to c (b .0), cell-to m (b .1), b .2)
+
+  next-from : (c m : ℕ) → NextTo g f c m → DataNeighbours g e c m
+  next-from c m b = (cell-from c (b .0), cell-from m (b .1), b .2)
+
+  out-to : (c : ℕ) → Outlet g e c → OutletOf g f c
+  out-to c o = go (outlet-leaves g e c (T-true (isOutlet g e c) o))
+    where
+      go : (p : ℕ) × (p < 8) × (leavesAt g e c p ≡ true) → OutletOf g f c
+      go (p, h, l) = (
+        cell-to c (true-T (outlet-data g e c (T-true (isOutlet g e c) o))),
+        (p, h, λ t. true-false (T-true (isData e (neighbour g c p)) (cell-from (neighbour g c p) t)) (not-is-true (isData e (neighbour g c p)) (sym (leaves-no-data g e cells c p) ∙ l))),
+      )
+
+  out-from : (c : ℕ) → OutletOf g f c → Outlet g e c
+  out-from c (t, (p, h, x)) =
+      true-T (leaves-outlet g e c p (T-true (isData e c) (cell-from c t)) h
+      (leaves-no-data g e cells c p ∙ not-of-false (not-true-false (isData e (neighbour g c p)) (λ d. x (cell-to (neighbour g c p) (true-T d))))))
+
+  level-at : (c : ℕ) → CellOf (size g) f c → levelOf (getD f c 0) ≡ at e c
+  level-at c t = ap levelOf (keys c (t .0)) ∙ level-key (at e c) (range c .0)
+
+  module _ (b : List ℕ) (len : ℕ) (B : Between g f b (size g) len) where
+    none-ahead : {A : Type 0} (m : ℕ) → Ahead (size g) f (size g) m → A
+    none-ahead m (j, h, l, q) = let z : ⊥ = omega arith in absurd z
+
+    -- from the outlets on, each data cell is reached
+    out-reached : (c : ℕ) → OutletOf g f c → 0 < getD b (size g + c) 0
+    out-reached c o = go (decLt 0 (getD b (size g + c) 0))
+      where
+        go : Dec (0 < getD b (size g + c) 0) → 0 < getD b (size g + c) 0
+        go (yes h) = h
+        go (no n) = none-ahead c (B .flood .outs-later c o (omega arith))
+
+    way-reached : {c : ℕ} → Way (Outlet g e) (DataNeighbours g e) c → 0 < getD b (size g + c) 0
+    way-reached (stop {c = c} o) = out-reached c (out-to c o)
+    way-reached (step {c = c} {n = n} x w) = go (B .flood .placed n (nx .1 .0) (way-reached w))
+      where
+        nx : NextTo g f c n
+        nx = next-to c n x
+
+        go : (i : ℕ) × (i < len) × (getD b i 0 ≡ n) → 0 < getD b (size g + c) 0
+        go (i, h, q) = ⊎-elim (λ r. r) (λ a. none-ahead c a) (B .flood .spread i c h (rw q (next-back g f c n nx)))
+
+    reached : (c : ℕ) → DataCell e c → 0 < getD b (size g + c) 0
+    reached c t = way-reached (some-way g e cells c t)
+
+    void-unreached : (c : ℕ) → c < size g → isData e c ≡ false → getD b (size g + c) 0 ≡ 0
+    void-unreached c h d = go (decLt 0 (getD b (size g + c) 0))
+      where
+        go : Dec (0 < getD b (size g + c) 0) → getD b (size g + c) 0 ≡ 0
+        go (yes l) =
+            let p = B .flood .placed c h l in
+            let t : CellOf (size g) f c = subst (CellOf (size g) f) (p .2) (B .flood .queued (p .0) (p .1) .0) in
+            true-false (T-true (isData e c) (cell-from c t)) d
+        go (no n) = omega arith
+
+    module _ (G : List ℤ) (written : (c : ℕ) → c < size g → at G c ≡ levelOf (getD b (size g + c) 0)) where
+      data-level : (c : ℕ) → DataCell e c → at G c ≡ levelOf (getD b (size g + c) 0)
+      data-level c t = written c (cell-to c t .0)
+
+      surface : Certificate (size g) (DataCell e) (Outlet g e) (DataNeighbours g e) (at e) (at G) (λ i. getD b i 0) len
+      surface =
+          record {
+            at-outlets = λ c o. let k = out-to c o in written c (k .0 .0) ∙ (ap levelOf (B .flood .outs c k (out-reached c k)) ∙ level-at c (k .0));
+            above = λ c t. let k = cell-to c t in
+                ≤ℤ-trans (≤ℤ-of-eq (sym (level-at c k))) (≤ℤ-trans (level-mono (getD f c 0) (getD b (size g + c) 0) (B .flood .under c (k .0) (reached c t) .0)) (≤ℤ-of-eq (sym (data-level c t))));
+            no-higher = no-higher;
+            few = (let y = B .flood .count in omega (arith, at-most (size g) (λ c. getD b (size g + c) 0)));
+            reached = λ i h. parents i h (B .flood .parents i h);
+            placed = λ c t. B .flood .placed c (cell-to c t .0) (reached c t);
+          }
+        where
+          no-higher : (c n : ℕ) → DataNeighbours g e c n → at G c ≤ℤ higher (at e c) (at G n)
+          no-higher c n x = go (B .flood .flat c n k (reached c (x .0)) (reached n (x .1)))
+            where
+              k : NextTo g f c n
+              k = next-to c n x
+
+              go : (getD b (size g + c) 0 ≤ getD f c 0) ⊎ (getD b (size g + c) 0 ≤ getD b (size g + n) 0) → at G c ≤ℤ higher (at e c) (at G n)
+              go (inl q) = ≤ℤ-trans (≤ℤ-trans (≤ℤ-of-eq (data-level c (x .0))) (≤ℤ-trans (level-mono _ _ q) (≤ℤ-of-eq (level-at c (k .0))))) (≤-higher-left (at e c) (at G n))
+              go (inr q) = ≤ℤ-trans (≤ℤ-trans (≤ℤ-of-eq (data-level c (x .0))) (≤ℤ-trans (level-mono _ _ q) (≤ℤ-of-eq (sym (data-level n (x .1)))))) (≤-higher-right (at e c) (at G n))
+
+          parents : (i : ℕ) → i < len
+              → OutletOf g f (getD b i 0) ⊎ ((j : ℕ) × (j < i) × NextTo g f (getD b i 0) (getD b j 0) × (getD b (size g + getD b j 0) 0 ≤ getD b (size g + getD b i 0) 0))
+              → Outlet g e (getD b i 0) ⊎ ((j : ℕ) × (j < i) × DataNeighbours g e (getD b i 0) (getD b j 0) × (at G (getD b j 0) ≤ℤ at G (getD b i 0)))
+          parents i h (inl o) = inl (out-from (getD b i 0) o)
+          parents i h (inr (j, l, x, m)) =
+              inr (
+                j,
+                l,
+                next-from (getD b i 0) (getD b j 0) x,
+                ≤ℤ-trans (≤ℤ-of-eq (written (getD b j 0) (x .1 .0))) (≤ℤ-trans (level-mono _ _ m) (≤ℤ-of-eq (sym (written (getD b i 0) (x .0 .0))))),
+              )
+
+      pub flooded-filled : length G ≡ size g → G ≡ filled g e
+      flooded-filled l =
+          certificate-filled g e G cells range
+          record {
+            cells = l;
+            voids = λ c h d. written c h ∙ (ap levelOf (void-unreached c h d) ∙ level-void);
+            surface = surface;
+          }

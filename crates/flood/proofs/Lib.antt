@@ -1,0 +1,2 @@
+-- The packed work buffer as the program reads and writes it.
+pub mod Halves

@@ -1,0 +1,74 @@
+-- The eight steps one after the other: none of those before p opens.
+use native.Mathlib.Omega.{arith}
+use Prim.Native.Nat.{ℕ, _+_, _-_, _*_, _/_, _%_, _≤_, _<_}
+use mathlib.Core.Path.{_≡_, refl, sym, _∙_, ap}
+use mathlib.Core.Bool.{true, false, true≢false}
+use Rattle.grid.specs.Sheet.{size, neighbour}
+use Rattle.flood_laws.specs.Flood.{Opens}
+use Rattle.flood_laws.specs.Packed.{frontOf, backOf}
+use Rattle.flood_laws.proofs.Steps.{opening-of, none-opens}
+use borrow.Author.Count.{below-more}
+use Rattle.flood.proofs.opening_border.Statement.{statement}
+use Rattle.flood.proofs.opening_border.Tie as tie
+use Rattle.flood.proofs.opening_border.Reads as reads
+use Rattle.flood.proofs.opening_border.Lts as lts
+use Rattle.cells.proofs.neighbour.Reads as neighbour-reads
+use Rattle.flood.proofs.opens_any.Reads as opens-any-reads
+
+abbrev Inv-loop : tie.InvT-loop
+Inv-loop g half c work n p₀ p =
+    (p ≤ 8) × ((q : ℕ) → q < p → Opens (size g) (frontOf (size g) work) (backOf (size g) half work) (neighbour g c q) → ⊥)
+
+abbrev μ-loop : tie.MeasureT-loop
+μ-loop g half c work n p₀ p = 8 - p
+
+mul-n : tie.Need-mul-n Inv-loop μ-loop
+mul-n c = omega arith
+
+loop-holds : tie.Need-loop-holds Inv-loop μ-loop
+loop-holds c = (omega arith, λ q h. let z : ⊥ = omega arith in absurd z)
+
+neighbour-requires : tie.Need-neighbour-requires Inv-loop μ-loop
+neighbour-requires c κs = let s = c .before .before .before .before in (s .pre .0, (s .pre .1 .1 .0, c .loop-test .taken))
+
+opens-any-requires : tie.Need-opens-any-requires Inv-loop μ-loop
+opens-any-requires c κs = c .before .before .before .before .before .pre .1 .0
+
+returns : tie.Need-returns Inv-loop μ-loop
+returns c =
+    let s = c .before .before .before .before .before .before .before in
+    let a = s .args in
+    let l = c .before .before .before .before .loop in
+    let o = (rw (c .before .before .neighbour .ensures) at (c .before .opens-any .ensures .0 (c .if1 .taken))) in
+    (λ e. opening-of (a .g) (frontOf (size (a .g)) (a .work .now)) (backOf (size (a .g)) (a .half) (a .work .now)) (a .c) (s .pre .1 .1) (l .p) (omega arith) o, λ e. absurd (true≢false e))
+
+add-p : tie.Need-add-p Inv-loop μ-loop
+add-p c = omega arith
+
+loop-less : tie.Need-loop-less Inv-loop μ-loop
+loop-less c = omega arith
+
+loop-again : tie.Need-loop-again Inv-loop μ-loop
+loop-again c =
+    (omega arith, below-more _ _ (c .before .before .before .before .loop .inv .1) (rw (c .before .before .neighbour .ensures) at (c .before .opens-any .ensures .1 (c .if1 .left))))
+
+returns-2 : tie.Need-returns-2 Inv-loop μ-loop
+returns-2 c =
+    let a = c .before .before .before .before .args in
+    (λ e. absurd (true≢false (sym e)), λ e. none-opens (a .g) (frontOf (size (a .g)) (a .work .now)) (backOf (size (a .g)) (a .half) (a .work .now)) (a .c) (λ p h. c .before .loop .inv .1 p (omega arith)))
+
+pub opening-border-spec : {M : Type 1} → statement M
+opening-border-spec =
+    tie.close
+    (tie.spec
+    Inv-loop
+    μ-loop
+    mul-n
+    loop-holds
+    neighbour-requires
+    opens-any-requires
+    returns
+    add-p
+    loop-less
+    loop-again
+    returns-2)

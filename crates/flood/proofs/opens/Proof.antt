@@ -1,0 +1,35 @@
+use native.Mathlib.Omega.{arith}
+use mathlib.Core.Logic.{inl, inr, ⊎-elim}
+use mathlib.Core.Path.{_≡_, refl, sym, _∙_, ap}
+use mathlib.Core.Bool.{true≢false}
+use Rattle.flood.proofs.Halves.{opens-void, opens-not, opens-reached}
+use borrow.Author.Needs.{needs}
+use Rattle.flood.proofs.opens.Statement.{statement}
+use Rattle.flood.proofs.opens.Tie as tie
+use Rattle.flood.proofs.opens.Reads as reads
+use Rattle.flood.proofs.opens.Lts as lts
+
+mul-word : tie.Need-mul-word
+mul-word c = search needs
+
+shared-slice-read-word : tie.Need-shared-slice-read-word
+shared-slice-read-word c = search needs
+
+returns : tie.Need-returns
+returns c =
+    let a = c .before .before .args in
+    opens-void (a .n) (a .half) 0 (a .m) (a .work .now) (omega arith) (c .if1 .taken)
+
+returns-2 : tie.Need-returns-2
+returns-2 c =
+    let a = c .before .before .before .args in
+    opens-not (a .n) (a .half) 0 (a .m) (a .work .now) (omega arith) (λ e. omega arith) (c .if2 .taken)
+
+returns-3 : tie.Need-returns-3
+returns-3 c =
+    let a = c .before .before .before .args in
+    opens-reached (a .n) (a .half) 0 (a .m) (a .work .now) (omega arith) (c .if2 .left)
+
+pub opens-spec : {M : Type 1} → statement M
+opens-spec =
+    tie.close (tie.spec mul-word shared-slice-read-word returns returns-2 returns-3)

@@ -1,0 +1,77 @@
+-- The eight steps one after the other: what stands at those before p is settled.
+use native.Mathlib.Omega.{arith}
+use Prim.Native.Nat.{ℕ, _+_, _-_, _*_, _/_, _%_, _≤_, _<_}
+use mathlib.Core.Path.{_≡_, refl, sym, _∙_, ap}
+use lib.ListN.{length, getD}
+use Rattle.grid.specs.Sheet.{size}
+use Rattle.flood_laws.specs.Flood.{Spread}
+use Rattle.flood_laws.specs.Packed.{frontOf, backOf}
+use Rattle.flood_laws.proofs.Steps.{spread-more, spread-end, during-room}
+use Rattle.flood.proofs.spread_border.Statement.{statement}
+use Rattle.flood.proofs.spread_border.Tie as tie
+use Rattle.flood.proofs.spread_border.Reads as reads
+use Rattle.flood.proofs.spread_border.Lts as lts
+use Rattle.cells.proofs.neighbour.Reads as neighbour-reads
+use Rattle.flood.proofs.touch_any.Reads as touch-any-reads
+
+abbrev Inv-loop : tie.InvT-loop
+Inv-loop g half k v head len x work₀ n tail₀ p₀ work tail p =
+    (p ≤ 8) × (length work ≡ length work₀) × (frontOf (size g) work ≡ frontOf (size g) work₀) × Spread g (frontOf (size g) work₀) (backOf (size g) half work) k v head tail x p
+
+abbrev μ-loop : tie.MeasureT-loop
+μ-loop g half k v head len x work₀ n tail₀ p₀ work tail p = 8 - p
+
+mul-n : tie.Need-mul-n Inv-loop μ-loop
+mul-n c = omega arith
+
+loop-holds : tie.Need-loop-holds Inv-loop μ-loop
+loop-holds c = (omega arith, refl, refl, c .before .before .pre .1 .1 .1 .1 .0)
+
+neighbour-requires : tie.Need-neighbour-requires Inv-loop μ-loop
+neighbour-requires c κs = let s = c .before .before .before .before in (s .pre .0, (s .pre .1 .1 .1 .1 .1, c .loop-test .taken))
+
+touch-any-requires : tie.Need-touch-any-requires Inv-loop μ-loop
+touch-any-requires c κs =
+    let s = c .before .before .before .before .before .before in
+    let a = s .args in
+    let l = c .before .before .before .loop in
+    (s .pre .0, (s .pre .1 .0, (omega arith, (s .pre .1 .1 .1 .0, during-room (a .g) _ _ (a .k) (a .v) (a .head) (l .tail) (l .inv .3 .during)))))
+
+add-p : tie.Need-add-p Inv-loop μ-loop
+add-p c = omega arith
+
+loop-less : tie.Need-loop-less Inv-loop μ-loop
+loop-less c = omega arith
+
+loop-again : tie.Need-loop-again Inv-loop μ-loop
+loop-again c =
+    let a = c .before .before .before .before .before .before .before .before .before .args in
+    let l = c .before .before .before .before .before .before .loop in
+    let t = c .before .before .touch-any in
+    let e = c .before .before .before .before .neighbour .ensures in
+    (omega arith, t .kept .1 .1 .1 .1 .1 .0 ∙ l .inv .1, t .ensures .0 ∙ l .inv .2, spread-more (a .g) _ _ (a .k) (a .v) (a .head) (l .tail) _ (l .p) (l .inv .3) (omega arith) e (rw (l .inv .2) at (t .ensures .1)))
+
+same-length : tie.Need-same-length Inv-loop μ-loop
+same-length c = c .before .loop .inv .1
+
+returns : tie.Need-returns Inv-loop μ-loop
+returns c =
+    let a = c .before .before .before .before .args in
+    let l = c .before .loop in
+    (l .inv .2, spread-end (a .g) _ _ (a .k) (a .v) (a .head) (l .tail) _ (l .p) (l .inv .3) (c .loop-test .left))
+
+pub spread-border-spec : {M : Type 1} → statement M
+spread-border-spec =
+    tie.close
+    (tie.spec
+    Inv-loop
+    μ-loop
+    mul-n
+    loop-holds
+    neighbour-requires
+    touch-any-requires
+    add-p
+    loop-less
+    loop-again
+    same-length
+    returns)
