@@ -1,0 +1,2 @@
+-- Promise  from the answers to the questions to the promise of the call
+pub mod Promise

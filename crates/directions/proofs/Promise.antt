@@ -1,0 +1,80 @@
+-- From the answers to the questions to the promise of the call: e are the elevations, c₀ the codes at entry, w₀ the work buffer.
+use mathlib.Core.Path.{_≡_, refl, sym, _∙_, ap}
+use mathlib.Core.Bool.{cond, _&&_}
+use mathlib.Core.List.{List, [], _∷_}
+use Prim.Native.Nat.{ℕ, _*_, _^_, _≤_, _<_}
+use native.Mathlib.Omega.{arith}
+use lib.Dec.{eqb}
+use lib.ListN.{length, getD}
+use lib.IntN.{ℤ}
+use borrow.Author.Tests.{eq-eqb, ne-eqb}
+use Rattle.grid.specs.declared.Grid.{Grid}
+use Rattle.grid.specs.declared.Answer.{Answer}
+use Rattle.grid.specs.Sheet.{size, isData}
+use Rattle.grid.specs.Directions.{levels, directions, firstUnlevelled}
+use Rattle.grid.specs.Checks.{refusal, accepted, askCell, askSheets, askWork, directionsCheck}
+use Rattle.grid.specs.Promises.{DirectionsPromise}
+use Rattle.grid_laws.proofs.Tests.{cond-true, cond-false}
+use Rattle.grid_laws.proofs.Below.{first-≤}
+use Rattle.checks.proofs.Asked.{Passed, Refused, passed, refused, have-first, one-input}
+
+unlevelled-≤ : (g : Grid) (e : List ℤ) → firstUnlevelled g e ≤ size g
+unfolding firstUnlevelled
+unlevelled-≤ g e = first-≤ (size g) (λ c. isData e c && eqb (getD (levels g e) c 0) 0)
+
+module _ (g : Grid) (e : List ℤ) (c₀ w₀ : List ℕ) (r : Answer)
+    (asked : r ≡ askSheets g (length e ∷ length e ∷ []) (length c₀ ∷ length c₀ ∷ length c₀ ∷ length c₀ ∷ []) (askWork g (length w₀) accepted)) where
+  -- what is asked after 9
+  later : Answer
+  later = askCell 10 g (firstUnlevelled g e) accepted
+
+  call : askSheets g (length e ∷ length e ∷ []) (length c₀ ∷ length c₀ ∷ length c₀ ∷ length c₀ ∷ []) (askWork g (length w₀) later) ≡ directionsCheck g e (length c₀) (length w₀)
+  unfolding directionsCheck later
+  call = one-input g (length e) (length c₀) (askWork g (length w₀) later)
+
+  no-of : (r .number ≡ 0 → ⊥) → Refused g (length e ∷ length e ∷ []) (length c₀ ∷ length c₀ ∷ length c₀ ∷ length c₀ ∷ []) (length w₀)
+  no-of n = refused g (length e ∷ length e ∷ []) (length c₀ ∷ length c₀ ∷ length c₀ ∷ length c₀ ∷ []) (length w₀) (λ z. n (ap (λ (a : Answer). a .number) asked ∙ z))
+
+  yes-of : r .number ≡ 0 → Passed g (length e ∷ length e ∷ []) (length c₀ ∷ length c₀ ∷ length c₀ ∷ length c₀ ∷ []) (length w₀)
+  yes-of z = passed g (length e ∷ length e ∷ []) (length c₀ ∷ length c₀ ∷ length c₀ ∷ length c₀ ∷ []) (length w₀) (ap (λ (a : Answer). a .number) (sym asked) ∙ z)
+
+  pub refused-promise : (r .number ≡ 0 → ⊥) → DirectionsPromise g e c₀ c₀ w₀ w₀ r
+  refused-promise n =
+      record {
+        answer = asked ∙ sym (no-of n .stands later) ∙ call;
+        result = sym (cond-false (directions g e) c₀ (ne-eqb (r .number) 0 n));
+        work = record { same-length = refl; untouched = λ l h. refl };
+      }
+
+  pub accepted-sizes : r .number ≡ 0 → (size g < 2 ^ 24) × (length e ≡ size g) × (length c₀ ≡ size g) × (4 * size g ≤ length w₀)
+  accepted-sizes z =
+      let p = yes-of z in
+      let c = p .fits .cells in
+      (omega arith, have-first (size g) (length e) (length e ∷ []) (p .inputs-have), have-first (size g) (length c₀) (length c₀ ∷ length c₀ ∷ length c₀ ∷ []) (p .results-have), p .room)
+
+  -- 10: some data cell has no level
+  module _ (z : r .number ≡ 0) (first : ℕ) (place : first ≡ firstUnlevelled g e) (c₁ w₁ : List ℕ) (codes : c₁ ≡ cond (eqb first (size g)) (directions g e) c₀) (same : length w₁ ≡ length w₀) where
+    pub lacking-promise : first < length e → DirectionsPromise g e c₀ c₁ w₀ w₁ (refusal 10 first)
+    unfolding later
+    lacking-promise h =
+        let s = accepted-sizes z .1 in
+        let other : first ≡ size g → ⊥ = (λ q. omega arith) in
+        record {
+          answer = ap (refusal 10) place ∙ sym (cond-false accepted (refusal 10 (firstUnlevelled g e)) (ne-eqb (firstUnlevelled g e) (size g) (λ q. other (place ∙ q)))) ∙ sym (yes-of z .then later) ∙ call;
+          result = codes ∙ cond-false (directions g e) c₀ (ne-eqb first (size g) other);
+          work = record { same-length = same; untouched = λ o k. let y : ⊥ = omega arith in absurd y };
+        }
+
+    pub accepted-promise : length e ≤ first → DirectionsPromise g e c₀ c₁ w₀ w₁ r
+    unfolding later
+    accepted-promise k =
+        let s = accepted-sizes z .1 in
+        let b = unlevelled-≤ g e in
+        let h : first ≡ size g = omega arith in
+        record {
+          answer =
+              asked ∙ yes-of z .then accepted
+              ∙ sym (cond-true accepted (refusal 10 (firstUnlevelled g e)) (eq-eqb (firstUnlevelled g e) (size g) (sym place ∙ h))) ∙ sym (yes-of z .then later) ∙ call;
+          result = codes ∙ cond-true (directions g e) c₀ (eq-eqb first (size g) h) ∙ sym (cond-true (directions g e) c₀ (eq-eqb (r .number) 0 z));
+          work = record { same-length = same; untouched = λ o k. let y : ⊥ = omega arith in absurd y };
+        }

@@ -1,0 +1,77 @@
+-- The answer of the checks stands beside a no; after a yes its sizes are what `directions_into` asks for, and what that answers is question 10.
+use native.Mathlib.Omega.{arith}
+use borrow.Author.Needs.{needs}
+use Rattle.directions.proofs.Promise.{refused-promise, accepted-sizes, lacking-promise, accepted-promise}
+use Rattle.directions.proofs.directions.Statement.{statement}
+use Rattle.directions.proofs.directions.Tie as tie
+
+check-requires : tie.Need-check-requires
+check-requires c κs = search needs
+
+returns : tie.Need-returns
+returns c =
+    let a = c .before .before .before .before .before .args in
+    let k = c .before .before .check in
+    refused-promise (a .g) (a .elevations .now) (a .codes .now) (a .work .now) (k .result) (k .ensures) (c .if1 .taken)
+
+directions-into-requires : tie.Need-directions-into-requires
+directions-into-requires c κs =
+    let yes = c .before .before in
+    let k = yes .before .before .check in
+    let a = yes .before .before .before .before .before .args in
+    let s = accepted-sizes (a .g) (a .elevations .now) (a .codes .now) (a .work .now) (k .result) (k .ensures) (yes .if1 .left) in
+    (s .0, (s .1, (s .2, s .3)))
+
+cast-t15 : tie.Need-cast-t15
+cast-t15 c =
+    let yes = c .before .before .before .before .before .before .before .before in
+    let k = yes .before .before .check in
+    let a = yes .before .before .before .before .before .args in
+    let s = accepted-sizes (a .g) (a .elevations .now) (a .codes .now) (a .work .now) (k .result) (k .ensures) (yes .if1 .left) in
+    let small = s .0 in
+    let len = s .1 in
+    let h = c .if2 .taken in
+    omega arith
+
+same-length : tie.Need-same-length
+same-length c = search needs
+
+same-length-2 : tie.Need-same-length-2
+same-length-2 c = search needs
+
+returns-2 : tie.Need-returns-2
+returns-2 c =
+    let d = c .before .before .before .before .before .directions-into in
+    let yes = c .before .before .before .before .before .before .before .before in
+    let k = yes .before .before .check in
+    let a = yes .before .before .before .before .before .args in
+    lacking-promise (a .g) (a .elevations .now) (a .codes .now) (a .work .now) (k .result) (k .ensures) (yes .if1 .left) (d .result) (d .ensures .0) (d .last .1 .1 .0) (d .last .1 .1 .1 .0) (d .ensures .1) (d .kept .1 .1 .1 .0) (c .if2 .taken)
+
+same-length-3 : tie.Need-same-length-3
+same-length-3 c = search needs
+
+same-length-4 : tie.Need-same-length-4
+same-length-4 c = search needs
+
+returns-3 : tie.Need-returns-3
+returns-3 c =
+    let d = c .before .before .before .before .before .directions-into in
+    let yes = c .before .before .before .before .before .before .before .before in
+    let k = yes .before .before .check in
+    let a = yes .before .before .before .before .before .args in
+    accepted-promise (a .g) (a .elevations .now) (a .codes .now) (a .work .now) (k .result) (k .ensures) (yes .if1 .left) (d .result) (d .ensures .0) (d .last .1 .1 .0) (d .last .1 .1 .1 .0) (d .ensures .1) (d .kept .1 .1 .1 .0) (c .if2 .left)
+
+pub directions-spec : {M : Type 1} → statement M
+directions-spec =
+    tie.close
+    (tie.spec
+    check-requires
+    returns
+    directions-into-requires
+    cast-t15
+    same-length
+    same-length-2
+    returns-2
+    same-length-3
+    same-length-4
+    returns-3)

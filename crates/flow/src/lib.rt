@@ -1,0 +1,192 @@
+// Flow directions (document 01, "Directions"): from any sheet the code of every cell, in linear time, or the first data cell without a level. First each cell of
+// level 0, an outlet or a cell with a drop above 0, gets its code as its word in the work buffer; then `levels` finds the other levels; then one scan looks
+// for a data cell without a level; and only when there is none are codes written. Proved by the certificate of `flow_laws`: the words that `levels`
+// leaves hold the levels of the definition, so the code of a flat cell is the choice among its equal neighbours one level lower.
+use cells::key_at;
+use grid::Grid;
+ghost use mathlib.Core.Path.{_≡_};
+ghost use mathlib.Core.Bool.{Bool, true, false, cond, _&&_};
+ghost use Prim.Native.Nat.{ℕ, suc, _+_, _*_, _/_, _%_, _<_, _≤_, _^_};
+ghost use lib.Dec.{eqb};
+ghost use lib.ListN.{length, getD};
+ghost use lib.IntN.{ℤ};
+ghost use Rattle.grid.specs.Below.{table as table', firstBelow};
+ghost use Rattle.grid.specs.Sheet.{size, at, isData, codeAt};
+ghost use Rattle.grid.specs.Directions.{directionAt, directions, flatSum, firstUnlevelled};
+ghost use Rattle.cells.specs.Keys.{keyOf, levelOf};
+ghost use Rattle.slopes.specs.Steepest.{choices as choices'};
+ghost use Rattle.flow_laws.specs.Words.{wordLevel, levelsIn, firstWord, Seeded, Levelled};
+
+// The word of a cell before the search: its code at level 0, and else 0.
+fn first_word(g: Grid, elevations: &[i16], table: &[u8; 256], cell: usize) -> u32
+    requires { ⌜ length (now elevations) ≡ size g ⌝ }
+    requires { ⌜ size g < 2 ^ 24 ⌝ }
+    requires { ⌜ now table ≡ choices' ⌝ }
+    requires { ⌜ cell < size g ⌝ }
+    ensures { λ r. ⌜ r ≡ firstWord g (now (elevations .entry)) cell ⌝ }
+{
+    if key_at(elevations, cell) == 0 {
+        return 0;
+    }
+    slopes::first_code(g, elevations, table, cell) as u32
+}
+
+// Puts the first word of every cell into the work buffer.
+fn seed(g: Grid, elevations: &[i16], work: &mut [u32])
+    requires { ⌜ length (now elevations) ≡ size g ⌝ }
+    requires { ⌜ size g < 2 ^ 24 ⌝ }
+    requires { ⌜ 4 * size g ≤ length (now work) ⌝ }
+    ensures { λ r. ⌜ Seeded g (now (elevations .entry)) (now (work .exit)) ⌝ }
+{
+    let table = slopes::choices();
+    let cells = elevations.len();
+    let mut cell: usize = 0;
+    while cell < cells {
+        work[cell] = first_word(g, elevations, &table, cell);
+        cell += 1;
+    }
+}
+
+// Whether a cell holds data and has no level.
+fn lacks_level(elevations: &[i16], work: &[u32], cell: usize) -> bool
+    requires { ⌜ cell < length (now work) ⌝ }
+    ensures { λ r. ⌜ r ≡ (isData (now (elevations .entry)) cell && eqb (getD (now (work .entry)) cell 0) 0) ⌝ }
+{
+    if work[cell] != 0 {
+        return false;
+    }
+    key_at(elevations, cell) != 0
+}
+
+// The first data cell without a level, or the number of cells.
+fn first_without(elevations: &[i16], work: &[u32]) -> usize
+    requires { ⌜ length (now elevations) ≤ length (now work) ⌝ }
+    ensures { λ r. ⌜ r ≡ firstBelow (length (now (elevations .entry))) (λ c. isData (now (elevations .entry)) c && eqb (getD (now (work .entry)) c 0) 0) ⌝ }
+{
+    let cells = elevations.len();
+    let mut cell: usize = 0;
+    while cell < cells {
+        if lacks_level(elevations, work, cell) {
+            return cell;
+        }
+        cell += 1;
+    }
+    cells
+}
+
+// Whether the cell `m` has the elevation of the key `k` and the level below that of `word`.
+fn is_below(elevations: &[i16], work: &[u32], k: u32, word: u32, m: usize) -> bool
+    requires { ⌜ length (now elevations) ≤ length (now work) ⌝ }
+    requires { ⌜ 0 < k ⌝ }
+    requires { ⌜ 256 ≤ word ⌝ }
+    ensures { λ r. ⌜ (r ≡ true → (at (now (elevations .entry)) m ≡ levelOf k) × ((suc (wordLevel (getD (now (work .entry)) m 0)) ≡ wordLevel word) × (0 < wordLevel (getD (now (work .entry)) m 0)))) ⌝ }
+    ensures { λ r. ⌜ (r ≡ false → at (now (elevations .entry)) m ≡ levelOf k → suc (wordLevel (getD (now (work .entry)) m 0)) ≡ wordLevel word → 0 < wordLevel (getD (now (work .entry)) m 0) → ⊥) ⌝ }
+{
+    if key_at(elevations, m) != k {
+        return false;
+    }
+    let near = work[m];
+    if near == 0 {
+        return false;
+    }
+    if word == 256 {
+        return near < 256;
+    }
+    near == word - 1
+}
+
+// The sum with the code of the position `p`, if it is a member.
+fn with_code(sum: usize, p: usize, chosen: bool) -> usize
+    requires { ⌜ p < 8 ⌝ }
+    requires { ⌜ sum < codeAt p ⌝ }
+    ensures { λ r. ⌜ r ≡ sum + cond chosen (codeAt p) 0 ⌝ }
+    ensures { λ r. ⌜ r < codeAt (p + 1) ⌝ }
+{
+    if chosen {
+        return sum + cells::Direction::code(p) as usize;
+    }
+    sum
+}
+
+// "The sum of the codes of equal neighbours at level k", for a cell of level k + 1, whose word is `word`.
+fn flat_sum(g: Grid, elevations: &[i16], work: &[u32], cell: usize, word: u32) -> usize
+    requires { ⌜ length (now elevations) ≡ size g ⌝ }
+    requires { ⌜ size g < 2 ^ 24 ⌝ }
+    requires { ⌜ size g ≤ length (now work) ⌝ }
+    requires { ⌜ cell < size g ⌝ }
+    requires { ⌜ isData (now elevations) cell ≡ true ⌝ }
+    requires { ⌜ word ≡ getD (now work) cell 0 ⌝ }
+    requires { ⌜ 256 ≤ word ⌝ }
+    ensures { λ r. ⌜ r ≡ flatSum g (now (elevations .entry)) (levelsIn g (now (work .entry))) cell ⌝ }
+    ensures { λ r. ⌜ r < 256 ⌝ }
+{
+    let k = key_at(elevations, cell);
+    let cols = g.cols;
+    let row = cell / cols;
+    let col = cell % cols;
+    let inner = cells::is_inner(g, row, col);
+    let mut sum: usize = 0;
+    let mut p: usize = 0;
+    while p < 8 {
+        let m = cells::near(g, cell, row, col, inner, p);
+        sum = with_code(sum, p, is_below(elevations, work, k, word, m));
+        p += 1;
+    }
+    sum
+}
+
+// The code of a cell of a sheet on which every data cell has a level.
+fn code_at(g: Grid, elevations: &[i16], table: &[u8; 256], work: &[u32], cell: usize) -> u8
+    requires { ⌜ length (now elevations) ≡ size g ⌝ }
+    requires { ⌜ size g < 2 ^ 24 ⌝ }
+    requires { ⌜ size g ≤ length (now work) ⌝ }
+    requires { ⌜ now table ≡ choices' ⌝ }
+    requires { ⌜ cell < size g ⌝ }
+    requires { ⌜ Levelled g (now elevations) (now work) ⌝ }
+    requires { ⌜ (getD (now work) cell 0 ≡ 0 → isData (now elevations) cell ≡ false) ⌝ }
+    ensures { λ r. ⌜ r ≡ directionAt g (now (elevations .entry)) (levelsIn g (now (work .entry))) cell ⌝ }
+{
+    let word = work[cell];
+    if word < 256 {
+        return word as u8;
+    }
+    slopes::choose(table, flat_sum(g, elevations, work, cell, word))
+}
+
+// Writes the code of every cell.
+fn write_codes(g: Grid, elevations: &[i16], work: &[u32], codes: &mut [u8])
+    requires { ⌜ length (now elevations) ≡ size g ⌝ }
+    requires { ⌜ size g < 2 ^ 24 ⌝ }
+    requires { ⌜ size g ≤ length (now work) ⌝ }
+    requires { ⌜ length (now codes) ≡ size g ⌝ }
+    requires { ⌜ Levelled g (now elevations) (now work) ⌝ }
+    requires { ⌜ ((c : ℕ) → c < size g → getD (now work) c 0 ≡ 0 → isData (now elevations) c ≡ false) ⌝ }
+    ensures { λ r. ⌜ now (codes .exit) ≡ table' (size g) (directionAt g (now (elevations .entry)) (levelsIn g (now (work .entry)))) ⌝ }
+{
+    let table = slopes::choices();
+    let cells = elevations.len();
+    let mut cell: usize = 0;
+    while cell < cells {
+        codes[cell] = code_at(g, elevations, &table, work, cell);
+        cell += 1;
+    }
+}
+
+// The codes of the sheet, or the first data cell without a level, and then the codes stay as they are.
+pub fn directions_into(g: Grid, elevations: &[i16], codes: &mut [u8], work: &mut [u32]) -> usize
+    requires { ⌜ size g < 2 ^ 24 ⌝ }
+    requires { ⌜ length (now elevations) ≡ size g ⌝ }
+    requires { ⌜ length (now codes) ≡ size g ⌝ }
+    requires { ⌜ 4 * size g ≤ length (now work) ⌝ }
+    ensures { λ r. ⌜ r ≡ firstUnlevelled g (now (elevations .entry)) ⌝ }
+    ensures { λ r. ⌜ now (codes .exit) ≡ cond (eqb r (size g)) (directions g (now (elevations .entry))) (now (codes .entry)) ⌝ }
+{
+    seed(g, elevations, work);
+    levels::levels(g, elevations, work);
+    let first = first_without(elevations, work);
+    if first < elevations.len() {
+        return first;
+    }
+    write_codes(g, elevations, work, codes);
+    first
+}

@@ -1,0 +1,134 @@
+-- The look at the eight neighbours of the queue's first.
+use mathlib.Core.Path.{_≡_, refl, sym, _∙_, ap, subst}
+use mathlib.Core.Bool.{Bool, true}
+use mathlib.Core.Logic.{_⊎_, inl, inr, ⊎-elim}
+use mathlib.Core.List.{List}
+use Prim.Native.Nat.{ℕ, suc, _+_, _-_, _≤_, _<_}
+use native.Mathlib.Omega.{arith}
+use lib.ListN.{length, getD, take, set}
+use lib.Seq.{getD-take}
+use lib.IntN.{ℤ}
+use Rattle.grid.specs.declared.Grid.{Grid}
+use Rattle.grid.specs.Sheet.{size, void, at, isData, eqZ, neighbour}
+use Rattle.grid.specs.Directions.{isEqual}
+use Rattle.grid_laws.proofs.Cells.{on-sheet}
+use Rattle.cells.specs.Keys.{levelOf}
+use Rattle.flow_laws.specs.Search.{Equal, Search}
+use Rattle.flow_laws.specs.Words.{wordLevel, levelIn, queueIn, Searching}
+use Rattle.flow_laws.proofs.Search.{last?, popped}
+use Rattle.flow_laws.proofs.Equals.{is-equal, equal-height, equal-on, equal-back}
+use Rattle.flow_laws.proofs.Agree.{equal-on-sheet}
+use Rattle.flow_laws.proofs.Words.{level-none, level-up, word-more, word-some, word-other, marked, searching-room}
+use Rattle.levels.specs.Touched.{Touched}
+
+-- cells of one elevation are data or void together
+pub alike-data : (e : List ℤ) (c d : ℕ) → at e d ≡ at e c → isData e c ≡ true → isData e d ≡ true
+unfolding isData
+alike-data e c d q t = ap (λ (z : ℤ). mathlib.Core.Bool.not (eqZ z void)) q ∙ t
+
+-- the positions before p of the queue's first, x, are looked at; what is marked gets `word`
+pub record Spreading (g : Grid) (e : List ℤ) (half : ℕ) (work : List ℕ) (head tail x word p : ℕ) : Type 0 where
+  pub searching : Searching g e half work (size g) head tail
+  pub more : head < tail
+  pub first : queueIn half work head ≡ x
+  pub high : getD (take (size g) work) x 0 + 1 ≡ word
+  pub done : (q : ℕ) → q < p → isEqual g e x q ≡ true → 0 < levelIn (size g) work (neighbour g x q)
+
+module _ (g : Grid) (e : List ℤ) (len : length e ≡ size g) (half : ℕ) (work : List ℕ) (head tail : ℕ) where
+  -- the queue's first
+  pub first-on : Searching g e half work (size g) head tail → head < tail → getD work (half + head) 0 < size g
+  first-on S h = S .search .queued head h .0
+
+  pub first-data : Searching g e half work (size g) head tail → head < tail → isData e (getD work (half + head) 0) ≡ true
+  first-data S h = let q = S .search .queued head h in S .search .from-lower (getD work (half + head) 0) (q .0) (q .1) .1 .from-data
+
+  pub spreading-none : Searching g e half work (size g) head tail → head < tail → Spreading g e half work head tail (getD work (half + head) 0) (getD work (getD work (half + head) 0) 0 + 1) 0
+  spreading-none S h =
+      record {
+        searching = S;
+        more = h;
+        first = refl;
+        high = ap (λ (w : ℕ). w + 1) (getD-take (size g) work (getD work (half + head) 0) 0 (first-on S h));
+        done = λ q l. let z : ⊥ = omega arith in absurd z;
+      }
+
+  module _ (x word p : ℕ) (P : Spreading g e half work head tail x word p) where
+    x-on : x < size g
+    x-on = rw (P .first) at (P .searching .search .queued head (P .more) .0)
+
+    x-high : 1 < levelIn (size g) work x
+    x-high = rw (P .first) at (P .searching .search .queued head (P .more) .1)
+
+    x-data : isData e x ≡ true
+    x-data = P .searching .search .from-lower x x-on x-high .1 .from-data
+
+    pub spreading-passed : (at e (neighbour g x p) ≡ at e x → 0 < getD work (neighbour g x p) 0) → Spreading g e half work head tail x word (p + 1)
+    spreading-passed f =
+        record {
+          searching = P .searching;
+          more = P .more;
+          first = P .first;
+          high = P .high;
+          done = λ q l. ⊎-elim (λ i. P .done q i) (λ i. rw i here) (last? p q l);
+        }
+      where
+        here : isEqual g e x p ≡ true → 0 < levelIn (size g) work (neighbour g x p)
+        here t = word-some _ (rw (sym (getD-take (size g) work (neighbour g x p) 0 (equal-on-sheet g e len x p t))) at (f (equal-height g e x p t)))
+
+    module _ (hn : size g ≤ half) (hl : half + size g ≤ length work) (hp : p < 8) (same : at e (neighbour g x p) ≡ at e x) (none : getD work (neighbour g x p) 0 ≡ 0) where
+      m-data : isData e (neighbour g x p) ≡ true
+      m-data = alike-data e x (neighbour g x p) same x-data
+
+      m-on : neighbour g x p < size g
+      m-on = on-sheet g e len (neighbour g x p) m-data
+
+      m-room : tail < size g
+      m-room = searching-room g e len half work (P .searching) (neighbour g x p) m-on none
+
+      beside : Equal g e (neighbour g x p) x
+      beside = equal-back g e len x (neighbour g x p) (record { from-data = x-data; position = p; eight = hp; there = refl; equal = is-equal g e x p m-data same })
+
+      up : wordLevel word ≡ suc (levelIn (size g) work x)
+      up = let w = word-more (getD (take (size g) work) x 0) x-high in ap wordLevel (sym (P .high)) ∙ level-up (getD (take (size g) work) x 0) (w .0)
+
+      other : (y : ℕ) → (y ≡ neighbour g x p → ⊥) → getD (take (size g) (set (set work (neighbour g x p) word) (half + tail) (neighbour g x p))) y 0 ≡ getD (take (size g) work) y 0
+      other y d = word-other (size g) half tail (neighbour g x p) word work hn hl m-on m-room y d
+
+      no-level : levelIn (size g) work (neighbour g x p) ≡ 0
+      no-level = level-none _ (getD-take (size g) work (neighbour g x p) 0 m-on ∙ none)
+
+      pub spreading-marked : Spreading g e half (set (set work (neighbour g x p) word) (half + tail) (neighbour g x p)) head (tail + 1) x word (p + 1)
+      spreading-marked =
+          record {
+            searching =
+                marked g e len half work (P .searching) hn hl (neighbour g x p) x word m-on none beside (let h = x-high in omega arith) up
+                (λ j h. rw (P .first) at (P .searching .search .close head j (omega arith) (P .more) h))
+                (λ i h k. rw (P .first) at (P .searching .search .sorted head i h k));
+            more = let h = P .more in omega arith;
+            first = Rattle.flow_laws.proofs.Words.queue-first (size g) half tail (neighbour g x p) word work hn hl m-on m-room head (P .more) ∙ P .first;
+            high = ap (λ (w : ℕ). w + 1) (other x (λ q. let a = x-high in let b = no-level in let r = ap (levelIn (size g) work) q in omega arith)) ∙ P .high;
+            done = λ q l. ⊎-elim (λ i t. kept (neighbour g x q) (P .done q i t)) (λ i t. rw i here) (last? p q l);
+          }
+        where
+          kept : (y : ℕ) → 0 < levelIn (size g) work y → 0 < levelIn (size g) (set (set work (neighbour g x p) word) (half + tail) (neighbour g x p)) y
+          kept y h = rw (other y (λ q. let b = no-level in let r = ap (levelIn (size g) work) q in omega arith)) h
+
+          here : 0 < levelIn (size g) (set (set work (neighbour g x p) word) (half + tail) (neighbour g x p)) (neighbour g x p)
+          here = let q = Rattle.flow_laws.proofs.Words.level-here (size g) half tail (neighbour g x p) word work hn hl m-on m-room in let r = up in omega arith
+
+    pub spreading-more : {work′ : List ℕ} {m r : ℕ} (k : ℕ) → size g ≤ half → half + size g ≤ length work → p < 8 → m ≡ neighbour g x p → at e x ≡ levelOf k
+        → Touched e half work work′ k word tail m r → Spreading g e half work′ head r x word (p + 1)
+    spreading-more {work′} {m} {r} k hn hl hp q s (inl (a, b, f)) = rw (a, b) (spreading-passed (rw (q, sym s) at f))
+    spreading-more {work′} {m} {r} k hn hl hp q s (inr (a, b, h, z)) = rw (a, b, q) (spreading-marked hn hl hp (rw (q, sym s) at h) (rw q at z))
+
+    pub spreading-end : 8 ≤ p → Searching g e half work (size g) (head + 1) tail
+    spreading-end h =
+        record {
+          search =
+              popped (equal-back g e len) (equal-on g e len) (P .searching .search) (P .more)
+              (λ m b. all m (rw (P .first) at b));
+          coded = P .searching .coded;
+        }
+      where
+        all : (m : ℕ) → Equal g e x m → 0 < levelIn (size g) work m
+        all m b = let l = b .eight in subst (λ (y : ℕ). 0 < levelIn (size g) work y) (b .there) (P .done (b .position) (omega arith) (b .equal))

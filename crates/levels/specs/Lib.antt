@@ -1,0 +1,2 @@
+-- What a look at a neighbour does.
+pub mod Touched

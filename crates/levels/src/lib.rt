@@ -1,0 +1,230 @@
+// Levels (document 01, "Directions"): how far each cell of a flat is from a cell of level 0, in steps to equal neighbours. Given the words of the cells of level
+// 0 it finds all others in linear time, breadth first: one look at each cell for level 1, then the queue, whose cells stand by rising level, so that a
+// cell is marked by the lowest of its equal neighbours. "The queue of waiting cells lies in the second half of the lent work buffer", lent on as its
+// tail. Proved by the certificate of `flow_laws`: each loop keeps the state `Searching`.
+use cells::is_inner;
+use cells::key_at;
+use cells::near;
+use grid::Grid;
+ghost use mathlib.Core.Path.{_≡_};
+ghost use mathlib.Core.Bool.{Bool, true, false};
+ghost use Prim.Native.Nat.{ℕ, _+_, _*_, _/_, _%_, _<_, _≤_, _^_};
+ghost use lib.ListN.{length, getD, set};
+ghost use lib.IntN.{ℤ};
+ghost use Rattle.grid.specs.Sheet.{size, at, neighbour};
+ghost use Rattle.grid.specs.Directions.{isEqual};
+ghost use Rattle.cells.specs.Keys.{keyOf, levelOf};
+ghost use Rattle.flow_laws.specs.Words.{levelIn, Seeded, Searching, Joining, Levelled, Room};
+ghost use Rattle.levels.specs.Touched.{Touched};
+
+// Puts a cell at the end of the queue.
+fn push(queue: &mut [u32], tail: usize, m: usize) -> usize
+    requires { ⌜ tail < length (now queue) ⌝ }
+    requires { ⌜ m < 2 ^ 24 ⌝ }
+    ensures { λ r. ⌜ r ≡ tail + 1 ⌝ }
+    ensures { λ r. ⌜ now (queue .exit) ≡ set (now (queue .entry)) tail m ⌝ }
+{
+    queue[tail] = m as u32;
+    tail + 1
+}
+
+// Gives the cell `m` a word, and queues it.
+fn mark(half: usize, tail: usize, m: usize, word: u32, work: &mut [u32]) -> usize
+    requires { ⌜ m < 2 ^ 24 ⌝ }
+    requires { ⌜ m < length (now work) ⌝ }
+    requires { ⌜ half + tail < length (now work) ⌝ }
+    ensures { λ r. ⌜ r ≡ tail + 1 ⌝ }
+    ensures { λ r. ⌜ now (work .exit) ≡ set (set (now (work .entry)) m word) (half + tail) m ⌝ }
+{
+    work[m] = word;
+    push(&mut work[half..], tail, m)
+}
+
+// Marks and queues the cell `m` if it has no word and the elevation of the key `k`.
+fn touch(
+    elevations: &[i16],
+    half: usize,
+    k: u32,
+    word: u32,
+    tail: usize,
+    m: usize,
+    work: &mut [u32],
+) -> usize
+    requires { ⌜ length (now elevations) < 2 ^ 24 ⌝ }
+    requires { ⌜ length (now elevations) ≤ half ⌝ }
+    requires { ⌜ half + length (now elevations) ≤ length (now work) ⌝ }
+    requires { ⌜ 0 < k ⌝ }
+    requires { ⌜ Room (length (now elevations)) (now work) tail ⌝ }
+    ensures { λ r. ⌜ Touched (now (elevations .entry)) half (now (work .entry)) (now (work .exit)) k word tail m r ⌝ }
+{
+    if m >= elevations.len() {
+        return tail;
+    }
+    if work[m] != 0 {
+        return tail;
+    }
+    if key_at(elevations, m) != k {
+        return tail;
+    }
+    mark(half, tail, m, word, work)
+}
+
+// Gives the next level to the equal neighbours of the queue's cell at `head` that have none.
+fn spread(
+    g: Grid,
+    elevations: &[i16],
+    half: usize,
+    head: usize,
+    tail: usize,
+    work: &mut [u32],
+) -> usize
+    requires { ⌜ length (now elevations) ≡ size g ⌝ }
+    requires { ⌜ size g < 2 ^ 24 ⌝ }
+    requires { ⌜ size g ≤ half ⌝ }
+    requires { ⌜ half + size g ≤ length (now work) ⌝ }
+    requires { ⌜ head < tail ⌝ }
+    requires { ⌜ Searching g (now elevations) half (now work) (size g) head tail ⌝ }
+    ensures { λ r. ⌜ Searching g (now (elevations .entry)) half (now (work .exit)) (size g) (head + 1) r ⌝ }
+{
+    let cell = work[half + head] as usize;
+    let word = work[cell] + 1;
+    let k = key_at(elevations, cell);
+    let cols = g.cols;
+    let row = cell / cols;
+    let col = cell % cols;
+    let inner = is_inner(g, row, col);
+    let mut end = tail;
+    let mut p: usize = 0;
+    while p < 8 {
+        let m = near(g, cell, row, col, inner, p);
+        end = touch(elevations, half, k, word, end, m, work);
+        p += 1;
+    }
+    end
+}
+
+// Empties the queue; its length at the end.
+fn empty_queue(g: Grid, elevations: &[i16], half: usize, tail: usize, work: &mut [u32]) -> usize
+    requires { ⌜ length (now elevations) ≡ size g ⌝ }
+    requires { ⌜ size g < 2 ^ 24 ⌝ }
+    requires { ⌜ size g ≤ half ⌝ }
+    requires { ⌜ half + size g ≤ length (now work) ⌝ }
+    requires { ⌜ Searching g (now elevations) half (now work) (size g) 0 tail ⌝ }
+    ensures { λ r. ⌜ Searching g (now (elevations .entry)) half (now (work .exit)) (size g) r r ⌝ }
+{
+    let mut head: usize = 0;
+    let mut end = tail;
+    while head < end {
+        end = spread(g, elevations, half, head, end, work);
+        head += 1;
+    }
+    end
+}
+
+// The position of an equal neighbour of level 0, or 8; `k` is the cell's key.
+fn beside_level_zero(g: Grid, elevations: &[i16], cell: usize, k: u32, work: &[u32]) -> usize
+    requires { ⌜ length (now elevations) ≡ size g ⌝ }
+    requires { ⌜ size g < 2 ^ 24 ⌝ }
+    requires { ⌜ size g ≤ length (now work) ⌝ }
+    requires { ⌜ cell < size g ⌝ }
+    requires { ⌜ at (now elevations) cell ≡ levelOf k ⌝ }
+    requires { ⌜ 0 < k ⌝ }
+    ensures { λ r. ⌜ (r < 8 → (isEqual g (now (elevations .entry)) cell r ≡ true) × (levelIn (size g) (now (work .entry)) (neighbour g cell r) ≡ 1)) ⌝ }
+    ensures { λ r. ⌜ (8 ≤ r → (p : ℕ) → p < 8 → isEqual g (now (elevations .entry)) cell p ≡ true → levelIn (size g) (now (work .entry)) (neighbour g cell p) ≡ 1 → ⊥) ⌝ }
+{
+    let cols = g.cols;
+    let row = cell / cols;
+    let col = cell % cols;
+    let inner = is_inner(g, row, col);
+    let mut p: usize = 0;
+    while p < 8 {
+        let m = near(g, cell, row, col, inner, p);
+        if is_zero_at(elevations, k, m, work) {
+            return p;
+        }
+        p += 1;
+    }
+    8
+}
+
+// Whether the cell `m` has level 0 and the elevation of the key `k`.
+fn is_zero_at(elevations: &[i16], k: u32, m: usize, work: &[u32]) -> bool
+    requires { ⌜ length (now elevations) ≤ length (now work) ⌝ }
+    requires { ⌜ 0 < k ⌝ }
+    ensures { λ r. ⌜ (r ≡ true → (at (now (elevations .entry)) m ≡ levelOf k) × ((0 < getD (now (work .entry)) m 0) × (getD (now (work .entry)) m 0 < 256))) ⌝ }
+    ensures { λ r. ⌜ (r ≡ false → at (now (elevations .entry)) m ≡ levelOf k → 0 < getD (now (work .entry)) m 0 → 256 ≤ getD (now (work .entry)) m 0) ⌝ }
+{
+    if key_at(elevations, m) != k {
+        return false;
+    }
+    let word = work[m];
+    if word == 0 {
+        return false;
+    }
+    if word >= 256 {
+        return false;
+    }
+    true
+}
+
+// Gives level 1 to the cell if it has no level and lies beside an equal cell of level 0.
+fn join(
+    g: Grid,
+    elevations: &[i16],
+    half: usize,
+    cell: usize,
+    tail: usize,
+    work: &mut [u32],
+) -> usize
+    requires { ⌜ length (now elevations) ≡ size g ⌝ }
+    requires { ⌜ size g < 2 ^ 24 ⌝ }
+    requires { ⌜ size g ≤ half ⌝ }
+    requires { ⌜ half + size g ≤ length (now work) ⌝ }
+    requires { ⌜ cell < size g ⌝ }
+    requires { ⌜ Joining g (now elevations) half (now work) cell tail ⌝ }
+    ensures { λ r. ⌜ Joining g (now (elevations .entry)) half (now (work .exit)) (cell + 1) r ⌝ }
+{
+    if work[cell] != 0 {
+        return tail;
+    }
+    let k = key_at(elevations, cell);
+    if k == 0 {
+        return tail;
+    }
+    if beside_level_zero(g, elevations, cell, k, work) >= 8 {
+        return tail;
+    }
+    mark(half, tail, cell, 256, work)
+}
+
+// Finds the cells of level 1; how many there are.
+fn first_round(g: Grid, elevations: &[i16], half: usize, work: &mut [u32]) -> usize
+    requires { ⌜ length (now elevations) ≡ size g ⌝ }
+    requires { ⌜ size g < 2 ^ 24 ⌝ }
+    requires { ⌜ size g ≤ half ⌝ }
+    requires { ⌜ half + size g ≤ length (now work) ⌝ }
+    requires { ⌜ Seeded g (now elevations) (now work) ⌝ }
+    ensures { λ r. ⌜ Searching g (now (elevations .entry)) half (now (work .exit)) (size g) 0 r ⌝ }
+{
+    let cells = elevations.len();
+    let mut tail: usize = 0;
+    let mut cell: usize = 0;
+    while cell < cells {
+        tail = join(g, elevations, half, cell, tail, work);
+        cell += 1;
+    }
+    tail
+}
+
+// Finds the level of every cell that has one, from the words of the cells of level 0 in the first half of the work buffer.
+pub fn levels(g: Grid, elevations: &[i16], work: &mut [u32])
+    requires { ⌜ length (now elevations) ≡ size g ⌝ }
+    requires { ⌜ size g < 2 ^ 24 ⌝ }
+    requires { ⌜ 4 * size g ≤ length (now work) ⌝ }
+    requires { ⌜ Seeded g (now elevations) (now work) ⌝ }
+    ensures { λ r. ⌜ Levelled g (now (elevations .entry)) (now (work .exit)) ⌝ }
+{
+    let half = work.len() / 2;
+    let tail = first_round(g, elevations, half, work);
+    empty_queue(g, elevations, half, tail, work);
+}
