@@ -1,0 +1,3 @@
+-- The lemmas of this crate.
+pub mod Labelled
+pub mod Sheet

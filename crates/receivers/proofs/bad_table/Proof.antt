@@ -1,0 +1,50 @@
+-- The nine stores give the table: computed.
+use Rattle.receivers.proofs.Codes.{bad-table-is}
+use borrow.Author.Needs.{needs}
+use Rattle.receivers.proofs.bad_table.Statement.{statement}
+use Rattle.receivers.proofs.bad_table.Tie as tie
+
+array-write-table : tie.Need-array-write-table
+array-write-table c = search needs
+
+array-write-table-2 : tie.Need-array-write-table-2
+array-write-table-2 c = search needs
+
+array-write-table-3 : tie.Need-array-write-table-3
+array-write-table-3 c = search needs
+
+array-write-table-4 : tie.Need-array-write-table-4
+array-write-table-4 c = search needs
+
+array-write-table-5 : tie.Need-array-write-table-5
+array-write-table-5 c = search needs
+
+array-write-table-6 : tie.Need-array-write-table-6
+array-write-table-6 c = search needs
+
+array-write-table-7 : tie.Need-array-write-table-7
+array-write-table-7 c = search needs
+
+array-write-table-8 : tie.Need-array-write-table-8
+array-write-table-8 c = search needs
+
+array-write-table-9 : tie.Need-array-write-table-9
+array-write-table-9 c = search needs
+
+returns : tie.Need-returns
+returns c = bad-table-is
+
+pub bad-table-spec : {M : Type 1} → statement M
+bad-table-spec =
+    tie.close
+    (tie.spec
+    array-write-table
+    array-write-table-2
+    array-write-table-3
+    array-write-table-4
+    array-write-table-5
+    array-write-table-6
+    array-write-table-7
+    array-write-table-8
+    array-write-table-9
+    returns)

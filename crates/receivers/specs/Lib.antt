@@ -1,0 +1,2 @@
+-- What the functions of this crate keep while they write.
+pub mod Written

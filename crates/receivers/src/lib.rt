@@ -1,0 +1,295 @@
+// Question 11, and the list of receivers of a sheet of codes: for each cell the next cell of its route, size where the route ends there, size + 1
+// where there is no code (`route_laws`, `specs/Receivers`). "A route .. ends at the first cell whose code points off the sheet or at a cell with
+// code 0." The list is written into the lent tail, from the codes, or from the copy of them that the counts call has in the first half of the work
+// buffer. Tables by code, made once for a sheet, say what is a code and how far its neighbour lies in the numbering, so only cells of the border
+// look at rows and columns. Proof: each function gives one element of the definition, and a loop collects them.
+use cells::Direction;
+use grid::Grid;
+ghost use mathlib.Core.Path.{_≡_};
+ghost use mathlib.Core.Bool.{Bool, true, false};
+ghost use mathlib.Core.List.{_++_};
+ghost use Prim.Native.Nat.{ℕ, _+_, _*_, _/_, _%_, _<_, _≤_, _^_};
+ghost use lib.ListN.{length, getD, take, drop, set};
+ghost use Rattle.grid.specs.Sheet.{size, positionOf, neighbour};
+ghost use Rattle.grid.specs.Routes.{firstBadCode};
+ghost use Rattle.route_laws.specs.Receivers.{receiverMark, receivers, AllCodes};
+ghost use Rattle.receivers.specs.Written.{badTable, FirstBad, ReachTable, WrittenTo};
+
+// 1 for every byte that is neither 0 nor one of the eight codes.
+fn bad_table() -> [u8; 256]
+    ensures { λ r. ⌜ r ≡ badTable ⌝ }
+{
+    let mut table = [1u8; 256];
+    table[0] = 0;
+    table[1] = 0;
+    table[2] = 0;
+    table[4] = 0;
+    table[8] = 0;
+    table[16] = 0;
+    table[32] = 0;
+    table[64] = 0;
+    table[128] = 0;
+    table
+}
+
+// The first byte that the table has, or their number.
+fn first_in(table: &[u8; 256], codes: &[u8]) -> usize
+    requires { ⌜ now table ≡ badTable ⌝ }
+    ensures { λ r. ⌜ FirstBad (now (codes .entry)) r ⌝ }
+{
+    let mut c = 0;
+    while c < codes.len() {
+        if table[codes[c] as usize] == 1 {
+            return c;
+        }
+        c += 1;
+    }
+    c
+}
+
+// "11. Is each code 0 or one of the eight? Place: first cell."
+pub fn first_bad_code(g: Grid, codes: &[u8]) -> usize
+    requires { ⌜ length (now codes) ≡ size g ⌝ }
+    ensures { λ r. ⌜ r ≡ firstBadCode g (now (codes .entry)) ⌝ }
+{
+    let table = bad_table();
+    first_in(&table, codes)
+}
+
+// For each code how far its neighbour lies beyond the first of the nine cells round a cell, in the numbering.
+fn reach_table(cols: usize) -> [usize; 256]
+    requires { ⌜ cols < 2 ^ 24 ⌝ }
+    ensures { λ r. ⌜ ReachTable cols r ⌝ }
+{
+    let mut table = [0usize; 256];
+    table[1] = 2;
+    table[2] = cols + 2;
+    table[4] = 2 * cols + 2;
+    table[8] = 2 * cols + 1;
+    table[16] = 2 * cols;
+    table[32] = cols;
+    table[128] = 1;
+    table
+}
+
+// The cell that a code points at from the cell in row `row` and column `col`, or rows * cols.
+fn pointed_at(g: Grid, table: &[usize; 256], cell: usize, row: usize, col: usize, code: u8) -> usize
+    requires { ⌜ size g < 2 ^ 24 ⌝ }
+    requires { ⌜ cell < size g ⌝ }
+    requires { ⌜ row ≡ cell / g .cols ⌝ }
+    requires { ⌜ col ≡ cell % g .cols ⌝ }
+    requires { ⌜ positionOf code < 8 ⌝ }
+    requires { ⌜ ReachTable (g .cols) (now table) ⌝ }
+    ensures { λ r. ⌜ r ≡ neighbour g cell (positionOf code) ⌝ }
+{
+    let cols = g.cols;
+    if cells::is_inner(g, row, col) {
+        return cell + table[code as usize] - (cols + 1);
+    }
+    cells::neighbour(g, cell, Direction::position(code))
+}
+
+// The mark of a cell.
+fn mark(g: Grid, table: &[usize; 256], codes: &[u8], cell: usize, row: usize, col: usize) -> usize
+    requires { ⌜ size g < 2 ^ 24 ⌝ }
+    requires { ⌜ length (now codes) ≡ size g ⌝ }
+    requires { ⌜ AllCodes (now codes) ⌝ }
+    requires { ⌜ cell < size g ⌝ }
+    requires { ⌜ row ≡ cell / g .cols ⌝ }
+    requires { ⌜ col ≡ cell % g .cols ⌝ }
+    requires { ⌜ ReachTable (g .cols) (now table) ⌝ }
+    ensures { λ r. ⌜ r ≡ receiverMark g (now (codes .entry)) cell ⌝ }
+    ensures { λ r. ⌜ r ≤ size g + 1 ⌝ }
+{
+    let n = g.rows * g.cols;
+    let code = codes[cell];
+    if code == 0 {
+        return n + 1;
+    }
+    let next = pointed_at(g, table, cell, row, col, code);
+    if next >= n {
+        return n;
+    }
+    if codes[next] == 0 {
+        return n;
+    }
+    next
+}
+
+// The mark of a cell, by the copy of the codes at the front of the work buffer.
+fn mark_of_copy(
+    g: Grid,
+    table: &[usize; 256],
+    work: &[u32],
+    cell: usize,
+    row: usize,
+    col: usize,
+) -> usize
+    requires { ⌜ size g < 2 ^ 24 ⌝ }
+    requires { ⌜ size g ≤ length (now work) ⌝ }
+    requires { ⌜ AllCodes (take (size g) (now work)) ⌝ }
+    requires { ⌜ cell < size g ⌝ }
+    requires { ⌜ row ≡ cell / g .cols ⌝ }
+    requires { ⌜ col ≡ cell % g .cols ⌝ }
+    requires { ⌜ ReachTable (g .cols) (now table) ⌝ }
+    ensures { λ r. ⌜ r ≡ receiverMark g (take (size g) (now (work .entry))) cell ⌝ }
+    ensures { λ r. ⌜ r ≤ size g + 1 ⌝ }
+{
+    let n = g.rows * g.cols;
+    let code = work[cell];
+    if code == 0 {
+        return n + 1;
+    }
+    let next = pointed_at(g, table, cell, row, col, code as u8);
+    if next >= n {
+        return n;
+    }
+    if work[next] == 0 {
+        return n;
+    }
+    next
+}
+
+// Writes the mark of one cell.
+fn write_mark(
+    g: Grid,
+    table: &[usize; 256],
+    codes: &[u8],
+    tail: &mut [u32],
+    cell: usize,
+    row: usize,
+    col: usize,
+)
+    requires { ⌜ size g < 2 ^ 24 ⌝ }
+    requires { ⌜ length (now codes) ≡ size g ⌝ }
+    requires { ⌜ AllCodes (now codes) ⌝ }
+    requires { ⌜ cell < size g ⌝ }
+    requires { ⌜ row ≡ cell / g .cols ⌝ }
+    requires { ⌜ col ≡ cell % g .cols ⌝ }
+    requires { ⌜ ReachTable (g .cols) (now table) ⌝ }
+    requires { ⌜ size g ≤ length (now tail) ⌝ }
+    ensures { λ _. ⌜ now (tail .exit) ≡ set (now (tail .entry)) cell (receiverMark g (now (codes .entry)) cell) ⌝ }
+{
+    tail[cell] = mark(g, table, codes, cell, row, col) as u32;
+}
+
+// The same by the copy; the list of receivers begins at `half`.
+fn write_mark_of_copy(
+    g: Grid,
+    table: &[usize; 256],
+    work: &mut [u32],
+    half: usize,
+    cell: usize,
+    row: usize,
+    col: usize,
+)
+    requires { ⌜ size g < 2 ^ 24 ⌝ }
+    requires { ⌜ size g ≤ half ⌝ }
+    requires { ⌜ half + size g ≤ length (now work) ⌝ }
+    requires { ⌜ AllCodes (take (size g) (now work)) ⌝ }
+    requires { ⌜ cell < size g ⌝ }
+    requires { ⌜ row ≡ cell / g .cols ⌝ }
+    requires { ⌜ col ≡ cell % g .cols ⌝ }
+    requires { ⌜ ReachTable (g .cols) (now table) ⌝ }
+    ensures { λ _. ⌜ now (work .exit) ≡ set (now (work .entry)) (half + cell) (receiverMark g (take (size g) (now (work .entry))) cell) ⌝ }
+{
+    let next = mark_of_copy(g, table, work, cell, row, col);
+    work[half + cell] = next as u32;
+}
+
+// The row of the cell after one that stands in row `row` and column `col`.
+fn row_after(cols: usize, cell: usize, row: usize, col: usize) -> usize
+    requires { ⌜ cell < 2 ^ 24 ⌝ }
+    requires { ⌜ row ≡ cell / cols ⌝ }
+    requires { ⌜ col ≡ cell % cols ⌝ }
+    requires { ⌜ col < cols ⌝ }
+    ensures { λ r. ⌜ r ≡ (cell + 1) / cols ⌝ }
+{
+    if col + 1 < cols {
+        return row;
+    }
+    row + 1
+}
+
+// Its column.
+fn col_after(cols: usize, cell: usize, col: usize) -> usize
+    requires { ⌜ cell < 2 ^ 24 ⌝ }
+    requires { ⌜ col ≡ cell % cols ⌝ }
+    requires { ⌜ col < cols ⌝ }
+    ensures { λ r. ⌜ r ≡ (cell + 1) % cols ⌝ }
+{
+    if col + 1 < cols {
+        return col + 1;
+    }
+    0
+}
+
+// The marks of all cells.
+fn write_marks(g: Grid, table: &[usize; 256], codes: &[u8], tail: &mut [u32])
+    requires { ⌜ size g < 2 ^ 24 ⌝ }
+    requires { ⌜ length (now codes) ≡ size g ⌝ }
+    requires { ⌜ AllCodes (now codes) ⌝ }
+    requires { ⌜ ReachTable (g .cols) (now table) ⌝ }
+    requires { ⌜ size g ≤ length (now tail) ⌝ }
+    ensures { λ _. ⌜ WrittenTo g (now (codes .entry)) 0 (size g) (now (tail .entry)) (now (tail .exit)) ⌝ }
+{
+    let cols = g.cols;
+    let n = g.rows * cols;
+    let mut cell = 0;
+    let mut row = 0;
+    let mut col = 0;
+    while cell < n {
+        write_mark(g, table, codes, tail, cell, row, col);
+        row = row_after(cols, cell, row, col);
+        col = col_after(cols, cell, col);
+        cell += 1;
+    }
+}
+
+// The same by the copy.
+fn write_marks_of_copy(g: Grid, table: &[usize; 256], work: &mut [u32], half: usize)
+    requires { ⌜ size g < 2 ^ 24 ⌝ }
+    requires { ⌜ size g ≤ half ⌝ }
+    requires { ⌜ half + size g ≤ length (now work) ⌝ }
+    requires { ⌜ AllCodes (take (size g) (now work)) ⌝ }
+    requires { ⌜ ReachTable (g .cols) (now table) ⌝ }
+    ensures { λ _. ⌜ WrittenTo g (take (size g) (now (work .entry))) half (size g) (now (work .entry)) (now (work .exit)) ⌝ }
+{
+    let cols = g.cols;
+    let n = g.rows * cols;
+    let mut cell = 0;
+    let mut row = 0;
+    let mut col = 0;
+    while cell < n {
+        write_mark_of_copy(g, table, work, half, cell, row, col);
+        row = row_after(cols, cell, row, col);
+        col = col_after(cols, cell, col);
+        cell += 1;
+    }
+}
+
+// The list of receivers, at the front of the lent tail.
+pub fn receivers_from(g: Grid, codes: &[u8], tail: &mut [u32])
+    requires { ⌜ size g < 2 ^ 24 ⌝ }
+    requires { ⌜ 1 ≤ g .rows ⌝ }
+    requires { ⌜ length (now codes) ≡ size g ⌝ }
+    requires { ⌜ AllCodes (now codes) ⌝ }
+    requires { ⌜ size g ≤ length (now tail) ⌝ }
+    ensures { λ _. ⌜ now (tail .exit) ≡ receivers g (now (codes .entry)) ++ drop (size g) (now (tail .entry)) ⌝ }
+{
+    let table = reach_table(g.cols);
+    write_marks(g, &table, codes, tail);
+}
+
+// The list of receivers, from `half` on, of the codes that stand at the front of the work buffer.
+pub fn receivers_from_copy(g: Grid, work: &mut [u32], half: usize)
+    requires { ⌜ size g < 2 ^ 24 ⌝ }
+    requires { ⌜ 1 ≤ g .rows ⌝ }
+    requires { ⌜ size g ≤ half ⌝ }
+    requires { ⌜ half + size g ≤ length (now work) ⌝ }
+    requires { ⌜ AllCodes (take (size g) (now work)) ⌝ }
+    ensures { λ _. ⌜ now (work .exit) ≡ take half (now (work .entry)) ++ (receivers g (take (size g) (now (work .entry))) ++ drop (half + size g) (now (work .entry))) ⌝ }
+{
+    let table = reach_table(g.cols);
+    write_marks_of_copy(g, &table, work, half);
+}

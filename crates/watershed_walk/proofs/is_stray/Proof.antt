@@ -1,0 +1,22 @@
+-- Both tests.
+use Prim.Native.Nat.{ℕ, _+_, _-_, _*_, _≤_, _<_}
+use mathlib.Core.Path.{_≡_, refl, sym, _∙_, ap, subst}
+use native.Mathlib.Omega.{arith}
+use lib.ListN.{length, getD, take, drop, set, length-set}
+use borrow.Author.Needs.{needs}
+use denote.Ref.{now}
+use mathlib.Core.Bool.{Bool, true, false, _&&_}
+use lib.Dec.{eqb, ltb}
+use borrow.Author.Tests.{eq-eqb, ne-eqb}
+use Rattle.grid_laws.proofs.Tests.{and-false-left, and-true}
+use Rattle.watershed_walk.proofs.is_stray.Statement.{statement}
+use Rattle.watershed_walk.proofs.is_stray.Tie as tie
+
+returns : tie.Need-returns
+returns c = let s = c .before in sym (and-false-left (ltb 0 (s .args .start)) (ne-eqb (s .args .code) 0 (c .if1 .taken)))
+
+returns-2 : tie.Need-returns-2
+returns-2 c = let s = c .before in sym (ap (λ (b : Bool). b && ltb 0 (s .args .start)) (eq-eqb (s .args .code) 0 (c .if1 .left)))
+
+pub is-stray-spec : {M : Type 1} → statement M
+is-stray-spec = tie.close (tie.spec returns returns-2)
