@@ -1,0 +1,2 @@
+-- What the functions of this crate keep and leave.
+pub mod Tail

@@ -1,0 +1,3 @@
+-- What flows into a cell, and the words of the pass that hands counts down.
+pub mod Inflow
+pub mod Passing

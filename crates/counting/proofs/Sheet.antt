@@ -1,0 +1,51 @@
+-- A tail that begins with the receivers of a sheet of codes: its marks, its first endless cell and its counts are the sheet's.
+use mathlib.Core.Path.{_≡_, sym, _∙_, ap, subst}
+use mathlib.Core.Bool.{not, _&&_}
+use mathlib.Core.List.{List, _++_}
+use Prim.Native.Nat.{ℕ, _+_, _≤_}
+use lib.Dec.{eqb}
+use lib.ListN.{length, getD, take, drop}
+use lib.Seq.{getD-take, take-at, drop-at, length-take-le}
+use Rattle.grid.specs.declared.Grid.{Grid}
+use Rattle.grid.specs.Below.{table, has}
+use Rattle.grid.specs.Sheet.{size}
+use Rattle.grid.specs.Routes.{follow, hasCode, receiver, countAt, counts, firstEndless}
+use Rattle.grid_laws.proofs.Below.{table-ext, count-ext}
+use Rattle.route_laws.specs.Ends.{firstUnending}
+use Rattle.route_laws.specs.Receivers.{receiverMark, receivers, nextIn, liveIn, liveOf, nextOf, Marks}
+use Rattle.route_laws.specs.Walking.{liveAt, nextAt}
+use Rattle.route_laws.proofs.Receivers.{at-receivers, length-receivers, receivers-marks, same-route, first-endless-is}
+use Rattle.count_laws.specs.Inflow.{routeCount}
+use Rattle.count_laws.specs.Passing.{FewDonors}
+use Rattle.count_laws.proofs.Sheet.{sheet-few}
+use Rattle.accumulation.specs.Tail.{markAt}
+
+module _ (g : Grid) (codes : List ℕ) (long : length codes ≡ size g) (t : List ℕ) (marks : take (size g) t ≡ receivers g codes) where
+  pub tail-marks : Marks (size g) (take (size g) t)
+  tail-marks = subst (λ (x : List ℕ). Marks (size g) x) (sym marks) (receivers-marks g codes long)
+
+  pub tail-few : FewDonors (size g) (markAt t)
+  tail-few c l =
+      subst (λ (x : ℕ). x ≤ 8)
+      (count-ext (size g) (λ d. eqb (receiverMark g codes d) c) (λ d. eqb (markAt t d) c)
+      (λ d h. ap (λ (x : ℕ). eqb x c) (sym (sym (getD-take (size g) t d 0 h) ∙ ap (λ (x : List ℕ). getD x d 0) marks ∙ at-receivers g codes long d 0 h))))
+      (sheet-few g codes long c l)
+
+  pub tail-first : firstUnending (liveAt (size g) t) (nextAt (size g) t) (size g) ≡ firstEndless g codes
+  tail-first = ap (λ (x : List ℕ). firstUnending (liveIn (size g) x) (nextIn (size g) x) (size g)) marks ∙ sym (first-endless-is g codes long)
+
+  pub tail-counts : table (size g) (routeCount (liveAt (size g) t) (nextAt (size g) t) (size g)) ≡ counts g codes
+  unfolding counts countAt routeCount
+  tail-counts =
+      ap (λ (x : List ℕ). table (size g) (routeCount (liveIn (size g) x) (nextIn (size g) x) (size g))) marks
+      ∙ table-ext (size g) (routeCount (liveOf g codes) (nextOf g codes) (size g)) (countAt g codes)
+      (λ c l.
+      count-ext (size g) (λ d. not (eqb d c) && has c (follow (liveOf g codes) (nextOf g codes) (size g) d)) (λ d. not (eqb d c) && has c (follow (hasCode codes) (receiver g codes) (size g) d))
+      (λ d h. ap (λ (x : List ℕ). not (eqb d c) && has c x) (same-route g codes long (size g) d)))
+
+-- where the receivers stand in a buffer
+pub receivers-first : (g : Grid) (codes rest : List ℕ) → length codes ≡ size g → take (size g) (receivers g codes ++ rest) ≡ receivers g codes
+receivers-first g codes rest long = take-at (receivers g codes) rest (size g) (length-receivers g codes long)
+
+pub tail-after : (half : ℕ) (w x : List ℕ) → half ≤ length w → drop half (take half w ++ x) ≡ x
+tail-after half w x h = drop-at (take half w) x half (length-take-le half w h)

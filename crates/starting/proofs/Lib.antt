@@ -1,0 +1,3 @@
+-- Starts by marks are the starts of Table 5; the scan that numbers them.
+pub mod Starts
+pub mod Numbers

@@ -1,0 +1,2 @@
+-- Starts by marks.
+pub mod Marked

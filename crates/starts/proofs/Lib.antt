@@ -1,0 +1,3 @@
+-- What the tail holds on the way; and the promise, by the answer.
+pub mod Into
+pub mod Promise
