@@ -1,0 +1,80 @@
+-- At each no the columns are as at entry; after the last yes the promise is what `settle` leaves.
+use borrow.Author.Needs.{needs}
+use Prim.Native.Nat.{_-_}
+use lib.ListN.{length}
+use Rattle.checks.proofs.Asked.{says-no, says-yes}
+use Rattle.pour_points.proofs.Promise.{promise-first, promise-lengths, promise-settled, can-scan, one-length-of, first-long, second-long, sizes-fit}
+use Rattle.pour_points.proofs.pour_points.Statement.{statement}
+use Rattle.pour_points.proofs.pour_points.Tie as tie
+
+check-requires : tie.Need-check-requires
+check-requires c κs = search needs
+
+returns : tie.Need-returns
+returns c =
+    let s = c .before .before .before .before .before .before .before in
+    let g = s .args .g in
+    let e = s .args .elevations .now in
+    let labels = s .args .labels .now in
+    let a = c .before .before .check in
+    promise-first g e labels (a .result) (a .ensures) (c .if1 .taken)
+
+one-length-requires : tie.Need-one-length-requires
+one-length-requires c κs = search needs
+
+returns-2 : tie.Need-returns-2
+returns-2 c =
+    let s = c .before .before .before .before .before .before .before .before .before in
+    let g = s .args .g in
+    let e = s .args .elevations .now in
+    let labels = s .args .labels .now in
+    let a = c .before .before .before .before .check in
+    promise-lengths g e labels (a .result) (a .ensures) (c .before .before .if1 .left) (says-no (c .before .one-length .ensures) (c .if2 .taken))
+
+settle-requires : tie.Need-settle-requires
+settle-requires c κs =
+    let s = c .before .before .before .before .before .before .before .before .before .before .before .before .before in
+    let g = s .args .g in
+    let e = s .args .elevations .now in
+    let labels = s .args .labels .now in
+    let a = c .before .before .before .before .before .before .before .before .check in
+    let n = c .before .before .before .before .before .before .if1 .left in (
+      can-scan g labels (second-long g (length e) (length labels) (a .result) (a .ensures) n) (sizes-fit g (length e) (length labels) (a .result) (a .ensures) n),
+      (first-long g (length e) (length labels) (a .result) (a .ensures) n, one-length-of (says-yes (c .before .before .before .before .before .one-length .ensures) (c .before .before .before .before .if2 .left))),
+    )
+
+same-length : tie.Need-same-length
+same-length c = search needs
+
+same-length-2 : tie.Need-same-length-2
+same-length-2 c = search needs
+
+same-length-3 : tie.Need-same-length-3
+same-length-3 c = search needs
+
+same-length-4 : tie.Need-same-length-4
+same-length-4 c = search needs
+
+returns-3 : tie.Need-returns-3
+returns-3 c =
+    let s = c .before .before .before .before .before .before .before .before .before .before .before .before .before .before .before .before .before .before .before .before .before in
+    let g = s .args .g in
+    let e = s .args .elevations .now in
+    let labels = s .args .labels .now in
+    let a = c .before .before .before .before .before .before .before .before .before .before .before .before .before .before .before .before .check in
+    promise-settled g e labels (a .result) (a .ensures) (c .before .before .before .before .before .before .before .before .before .before .before .before .before .before .if1 .left) (says-yes (c .before .before .before .before .before .before .before .before .before .before .before .before .before .one-length .ensures) (c .before .before .before .before .before .before .before .before .before .before .before .before .if2 .left)) (c .before .before .before .before .before .before .before .settle .ensures)
+
+pub pour-points-spec : {M : Type 1} → statement M
+pour-points-spec =
+    tie.close
+    (tie.spec
+    check-requires
+    returns
+    one-length-requires
+    returns-2
+    settle-requires
+    same-length
+    same-length-2
+    same-length-3
+    same-length-4
+    returns-3)
