@@ -1,0 +1,134 @@
+-- What the tests of single bytes say of the whole text.
+use mathlib.Core.Path.{_≡_, refl, sym, ap, _∙_}
+use mathlib.Core.Bool.{Bool, true, false, not, cond, _&&_, _||_}
+use mathlib.Core.List.{List}
+use mathlib.Core.Logic.{_⊎_, inl, inr, ⊎-elim}
+use Prim.Native.Nat.{ℕ, _+_, _-_, _*_, _%_, _≤_, _<_}
+use native.Mathlib.Nat.{mul-le-mul}
+use native.Mathlib.Omega.{arith}
+use lib.Dec.{leb, ltb, eqb}
+use lib.ListN.{length, getD}
+use borrow.Author.Tests.{lt-ltb, le-ltb, le-leb, lt-leb, eq-eqb, ne-eqb}
+use Rattle.grid.specs.Below.{anyBelow, firstBelow}
+use Rattle.grid.specs.declared.Grid.{Grid}
+use Rattle.grid.specs.Frames.{lineFeed, hexValue, isTextByte, number4, textGrid, endsLine, isShaped, firstBadByte}
+use Rattle.text_laws.proofs.Tests.{first-none, first-is, none-below, some-below}
+use Rattle.text_checks.specs.Shape.{isPlaced, feedsEndLines}
+
+-- ---- question 2
+
+pub digit-fits : (b : ℕ) → hexValue b < 16 → isTextByte b ≡ true
+unfolding isTextByte
+digit-fits b h = rw (lt-ltb (hexValue b) 16 h)
+
+pub no-digit-fits : (b : ℕ) → 16 ≤ hexValue b → isTextByte b ≡ eqb b 10
+unfolding isTextByte
+no-digit-fits b h = rw (le-ltb (hexValue b) 16 h)
+
+-- the first i bytes are digits or line feeds
+abbrev pub FineTo : List ℕ → ℕ → Type 0
+FineTo text i = (k : ℕ) → k < i → isTextByte (getD text k 0) ≡ true
+
+pub bad-byte : (text : List ℕ) (i : ℕ) → i < length text → FineTo text i → isTextByte (getD text i 0) ≡ false → i ≡ firstBadByte text
+unfolding firstBadByte
+bad-byte text i l h e = sym (first-is (length text) i (λ k. not (isTextByte (getD text k 0))) l (λ k m. ap not (h k m)) (ap not e))
+
+pub no-bad-byte : (text : List ℕ) (i : ℕ) → i ≡ length text → FineTo text i → i ≡ firstBadByte text
+unfolding firstBadByte
+no-bad-byte text i e h =
+    e ∙ sym (first-none (length text) (λ k. not (isTextByte (getD text k 0))) (λ k m. ap not (h k (omega arith))))
+
+-- ---- question 3
+
+pub header-ends : (cols i : ℕ) → i ≡ 8 → endsLine cols i ≡ true
+unfolding endsLine
+header-ends cols i e = rw (eq-eqb i 8 e)
+
+pub in-header : (cols i : ℕ) → (i ≡ 8 → ⊥) → i < 9 → endsLine cols i ≡ false
+unfolding endsLine
+in-header cols i n h = rw (ne-eqb i 8 n, lt-leb 9 i h)
+
+pub in-lines : (cols i : ℕ) → 9 ≤ i → endsLine cols i ≡ eqb ((i - 9) % (4 * cols + 1)) (4 * cols)
+unfolding endsLine
+in-lines cols i h = rw (ne-eqb i 8 (λ e. omega arith), le-leb 9 i h)
+
+pub placed-feed : (cols b i : ℕ) → b ≡ 10 → isPlaced cols b i ≡ endsLine cols i
+unfolding isPlaced
+placed-feed cols b i e = rw (eq-eqb b 10 e)
+
+pub placed-digit : (cols b i : ℕ) → (b ≡ 10 → ⊥) → isPlaced cols b i ≡ not (endsLine cols i)
+unfolding isPlaced
+placed-digit cols b i n = rw (ne-eqb b 10 n)
+
+-- where a byte is right, neither condition fails at it; where it is wrong, one does
+right-first : (f e : Bool) → cond f e (not e) ≡ true → (not f && e) ≡ false
+right-first true e h = refl
+right-first false true h = sym h
+right-first false false h = refl
+
+right-second : (f e : Bool) → cond f e (not e) ≡ true → (f && not e) ≡ false
+right-second true true h = refl
+right-second true false h = sym h
+right-second false e h = refl
+
+wrong-either : (f e : Bool) → cond f e (not e) ≡ false → ((not f && e) ≡ true) ⊎ ((f && not e) ≡ true)
+wrong-either true true h = inl (sym h)
+wrong-either true false h = inr refl
+wrong-either false true h = inl refl
+wrong-either false false h = inr (sym h)
+
+-- the first i bytes are right
+abbrev pub PlacedTo : ℕ → List ℕ → ℕ → Type 0
+PlacedTo cols text i = (k : ℕ) → k < i → isPlaced cols (getD text k 0) k ≡ true
+
+module _ (cols : ℕ) (text : List ℕ) where
+  pub all-placed : (i : ℕ) → i ≡ length text → PlacedTo cols text i → feedsEndLines text cols ≡ true
+  unfolding feedsEndLines isPlaced
+  all-placed i e h =
+      rw (
+        none-below (length text) (λ k. not (eqb (getD text k 0) lineFeed) && endsLine cols k) (λ k m. right-first (eqb (getD text k 0) lineFeed) (endsLine cols k) (h k (omega arith))),
+        none-below (length text) (λ k. eqb (getD text k 0) lineFeed && not (endsLine cols k)) (λ k m. right-second (eqb (getD text k 0) lineFeed) (endsLine cols k) (h k (omega arith))),
+      )
+
+  neither : (a b : Bool) → (a ≡ true) ⊎ (b ≡ true) → (not a && not b) ≡ false
+  neither a b (inl e) = rw e
+  neither true b (inr e) = refl
+  neither false b (inr e) = rw e
+
+  pub one-misplaced : (i : ℕ) → i < length text → isPlaced cols (getD text i 0) i ≡ false → feedsEndLines text cols ≡ false
+  unfolding feedsEndLines isPlaced
+  one-misplaced i l e =
+      neither _ _
+      (⊎-elim
+      (λ w. inl (some-below (length text) i (λ k. not (eqb (getD text k 0) lineFeed) && endsLine cols k) l w))
+      (λ w. inr (some-below (length text) i (λ k. eqb (getD text k 0) lineFeed && not (endsLine cols k)) l w))
+      (wrong-either (eqb (getD text i 0) lineFeed) (endsLine cols i) e))
+
+module _ (text : List ℕ) where
+  pub too-short : length text < 9 → isShaped text ≡ false
+  unfolding isShaped
+  too-short h = rw (lt-leb 9 (length text) h)
+
+  module _ (g : Grid) (same : g ≡ textGrid text) (long : 9 ≤ length text) where
+    pub wrong-length : (length text ≡ 9 + g .rows * (4 * g .cols + 1) → ⊥) → isShaped text ≡ false
+    unfolding isShaped
+    wrong-length n =
+        let e : (length text ≡ 9 + (textGrid text) .rows * (4 * (textGrid text) .cols + 1)) → ⊥ = rw same at n in
+        rw (le-leb 9 (length text) long, ne-eqb (length text) _ e)
+
+    pub right-length : length text ≡ 9 + g .rows * (4 * g .cols + 1) → isShaped text ≡ feedsEndLines text (g .cols)
+    unfolding isShaped feedsEndLines
+    right-length q =
+        let e : length text ≡ 9 + (textGrid text) .rows * (4 * (textGrid text) .cols + 1) = rw same at q in
+        rw (same, le-leb 9 (length text) long, eq-eqb (length text) _ e)
+
+-- the two numbers of the header
+pub header-grid : (text : List ℕ) {rows cols : ℕ} → rows ≡ number4 text 0 → cols ≡ number4 text 4 → _≡_ {A = Grid} record { rows = rows; cols = cols } (textGrid text)
+unfolding textGrid
+header-grid text e f = rw (e, f)
+
+-- the length that a header announces fits a word
+pub announced-small : (rows cols : ℕ) → rows ≤ 69904 → cols ≤ 69904 → rows * (4 * cols + 1) ≤ 19546346768
+announced-small rows cols h k =
+    let l : 4 * cols + 1 ≤ 279617 = omega arith in
+    omega (arith, mul-le-mul h l)

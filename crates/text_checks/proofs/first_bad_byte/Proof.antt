@@ -1,0 +1,64 @@
+-- `text_checks::first_bad_byte`: every byte before the place is a digit or a line feed.
+use mathlib.Core.Path.{_≡_, sym, _∙_}
+use Prim.Native.Nat.{ℕ, _+_, _-_, _≤_, _<_}
+use native.Mathlib.Omega.{arith}
+use lib.ListN.{length, getD}
+use borrow.Author.Count.{below-none, below-more}
+use borrow.Author.Tests.{not-true, not-false}
+use Rattle.text_checks.proofs.Bytes.{FineTo, bad-byte, no-bad-byte}
+use Rattle.text_checks.proofs.first_bad_byte.Statement.{statement}
+use Rattle.text_checks.proofs.first_bad_byte.Tie as tie
+use Rattle.text_checks.proofs.first_bad_byte.Reads as reads
+use Rattle.text_checks.proofs.first_bad_byte.Lts as lts
+use Rattle.text_checks.proofs.is_text_byte.Reads as is-text-byte-reads
+
+abbrev Inv-loop : tie.InvT-loop
+Inv-loop text next₀ next = (next ≤ length text) × FineTo text next
+
+abbrev μ-loop : tie.MeasureT-loop
+μ-loop text next₀ next = length text - next
+
+loop-holds : tie.Need-loop-holds Inv-loop μ-loop
+loop-holds c = (omega arith, below-none _)
+
+add-next : tie.Need-add-next Inv-loop μ-loop
+add-next c = omega arith
+
+shared-slice-read-is-text-byte : tie.Need-shared-slice-read-is-text-byte Inv-loop μ-loop
+shared-slice-read-is-text-byte c = omega arith
+
+is-text-byte-requires : tie.Need-is-text-byte-requires Inv-loop μ-loop
+is-text-byte-requires c κs = tt
+
+returns : tie.Need-returns Inv-loop μ-loop
+returns c =
+    let l = c .before .before .before .before .loop in
+    (bad-byte _ _ (omega arith) (l .inv .1) (sym (c .before .is-text-byte .ensures) ∙ not-true _ (c .if1 .taken)), omega arith)
+
+loop-less : tie.Need-loop-less Inv-loop μ-loop
+loop-less c = omega arith
+
+loop-again : tie.Need-loop-again Inv-loop μ-loop
+loop-again c =
+    let l = c .before .before .before .before .loop in
+    (omega arith, below-more _ _ (l .inv .1) (sym (c .before .is-text-byte .ensures) ∙ not-false _ (c .if1 .left)))
+
+returns-2 : tie.Need-returns-2 Inv-loop μ-loop
+returns-2 c =
+    let l = c .before .loop in
+    (no-bad-byte _ _ (omega arith) (l .inv .1), omega arith)
+
+pub first-bad-byte-spec : {M : Type 1} → statement M
+first-bad-byte-spec =
+    tie.close
+    (tie.spec
+    Inv-loop
+    μ-loop
+    loop-holds
+    add-next
+    shared-slice-read-is-text-byte
+    is-text-byte-requires
+    returns
+    loop-less
+    loop-again
+    returns-2)

@@ -1,0 +1,5 @@
+pub mod Runs
+pub mod Digits
+pub mod Tests
+pub mod Words
+pub mod Values

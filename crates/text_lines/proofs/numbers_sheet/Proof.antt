@@ -1,0 +1,73 @@
+-- `text_lines::numbers_sheet`: r lines of the sheet are stored.
+use mathlib.Core.Path.{_≡_, refl}
+use Prim.Native.Nat.{ℕ, _+_, _-_, _*_, _≤_, _<_}
+use native.Mathlib.Omega.{arith}
+use lib.ListN.{length, getD, set, length-set}
+use Rattle.grid.specs.Sheet.{at}
+use Rattle.grid.specs.Frames.{toTwos}
+use Rattle.text_laws.proofs.Digits.{sheet-lines}
+use Rattle.text_lines.proofs.Lines.{LinesTo, lines-none, lines-more, lines-end, one-more-fits}
+use Rattle.text_lines.proofs.numbers_sheet.Statement.{statement}
+use Rattle.text_lines.proofs.numbers_sheet.Tie as tie
+use Rattle.text_lines.proofs.numbers_sheet.Reads as reads
+use Rattle.text_lines.proofs.numbers_sheet.Lts as lts
+use Rattle.text_lines.proofs.numbers_line.Reads as numbers-line-reads
+
+abbrev Inv-loop : tie.InvT-loop
+Inv-loop numbers out₀ from rows cols next₀ c₀ r₀ out next c r =
+    (r ≤ rows) × LinesTo cols 8 (λ i. getD numbers i 0) out₀ from out next c r
+
+abbrev μ-loop : tie.MeasureT-loop
+μ-loop numbers out₀ from rows cols next₀ c₀ r₀ out next c r = rows - r
+
+loop-holds : tie.Need-loop-holds Inv-loop μ-loop
+loop-holds c = (omega arith, lines-none _ 8 _ _ _)
+
+numbers-line-requires : tie.Need-numbers-line-requires Inv-loop μ-loop
+numbers-line-requires c κs =
+    let s = c .before .before .before .before .before .args in
+    let h = c .before .loop-test .taken in
+    omega (arith, one-more-fits (s .g .cols) h, one-more-fits (s .g .cols * 8 + 1) h)
+
+add-c : tie.Need-add-c Inv-loop μ-loop
+add-c c =
+    let s = c .before .before .before .before .before .before .before .before .args in
+    let h = c .before .before .before .before .loop-test .taken in
+    omega (arith, one-more-fits (s .g .cols) h)
+
+add-r : tie.Need-add-r Inv-loop μ-loop
+add-r c = omega arith
+
+loop-less : tie.Need-loop-less Inv-loop μ-loop
+loop-less c = omega arith
+
+loop-again : tie.Need-loop-again Inv-loop μ-loop
+loop-again c =
+    let l = c .before .before .before .before .before .loop in
+    let h = c .before .before .before .before .loop-test .taken in
+    (omega arith, lines-more _ 8 _ _ _ (l .inv .1) (c .before .before .numbers-line .ensures))
+
+same-length : tie.Need-same-length Inv-loop μ-loop
+same-length c = c .before .loop .inv .1 .same-length
+
+returns : tie.Need-returns Inv-loop μ-loop
+returns c =
+    let l = c .before .loop in
+    let s = c .before .before .before .before .args in
+    let e : l .r ≡ s .g .rows = omega arith in
+    rw (sheet-lines (s .g)) (lines-end _ 8 _ _ _ (rw e at (l .inv .1)))
+
+pub numbers-sheet-spec : {M : Type 1} → statement M
+numbers-sheet-spec =
+    tie.close
+    (tie.spec
+    Inv-loop
+    μ-loop
+    loop-holds
+    numbers-line-requires
+    add-c
+    add-r
+    loop-less
+    loop-again
+    same-length
+    returns)
