@@ -1,0 +1,2 @@
+-- What the inner part of the one call needs and leaves.
+pub mod Results
