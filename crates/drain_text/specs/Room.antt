@@ -1,0 +1,26 @@
+-- The sheets of a call with text, and the room for what it prints.
+use mathlib.Core.Path.{_≡_}
+use mathlib.Core.Bool.{true}
+use mathlib.Core.List.{List}
+use Prim.Native.Nat.{ℕ, _*_, _≤_}
+use lib.IntN.{ℤ}
+use lib.ListN.{length}
+use Rattle.grid.specs.declared.Grid.{Grid}
+use Rattle.grid.specs.Sheet.{size}
+use Rattle.grid.specs.Checks.{inRange}
+
+-- a sheet that passes questions 4, 5 and 6, and room for its results as text
+pub record Small (g : Grid) (elevations : List ℤ) (out : List ℕ) : Type 0 where
+  pub few : size g ≤ 2304
+  pub rows-in-range : inRange (g .rows) ≡ true
+  pub cols-in-range : inRange (g .cols) ≡ true
+  pub elevations-size : length elevations ≡ size g
+  pub room : 59913 ≤ length out
+
+-- result sheets of its size, and a work buffer that is long enough
+pub record Lent (g : Grid) (filled : List ℤ) (codes counts labels work : List ℕ) : Type 0 where
+  pub filled-size : length filled ≡ size g
+  pub codes-size : length codes ≡ size g
+  pub counts-size : length counts ≡ size g
+  pub labels-size : length labels ≡ size g
+  pub work-size : 4 * size g ≤ length work
