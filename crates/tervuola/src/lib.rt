@@ -1,0 +1,169 @@
+// The C interface: "Our planning screen, written in C, calls the program with its own buffers". Thin entry points on numbers and slices over the proved
+// calls, each with the promise of the call behind it. A slice crosses as a pointer and a number of elements; structs come back by value.
+use grid::Answer;
+use grid::Counted;
+use grid::Dimensions;
+use grid::Grid;
+ghost use Rattle.grid.specs.Sheet.{gridOf};
+ghost use Rattle.grid.specs.Promises.{CountsPromise, DirectionsPromise, DrainPromise, FillPromise, LabelsPromise, PourPointsPromise, ReadPromise, StartsPromise, WatershedsPromise};
+
+// Elevations to the filled sheet.
+#[no_mangle]
+pub extern "C" fn tervuola_fill(
+    rows: u32,
+    cols: u32,
+    elevations: &[i16],
+    filled: &mut [i16],
+    work: &mut [u32],
+) -> Answer
+    ensures { λ r. ⌜ FillPromise (gridOf rows cols) (now (elevations .entry)) (now (filled .entry)) (now (filled .exit)) (now (work .entry)) (now (work .exit)) r ⌝ }
+{
+    let g = Grid {
+        rows: rows as usize,
+        cols: cols as usize,
+    };
+    fill::fill(g, elevations, filled, work)
+}
+
+// Any sheet to its flow directions.
+#[no_mangle]
+pub extern "C" fn tervuola_directions(
+    rows: u32,
+    cols: u32,
+    elevations: &[i16],
+    codes: &mut [u8],
+    work: &mut [u32],
+) -> Answer
+    ensures { λ r. ⌜ DirectionsPromise (gridOf rows cols) (now (elevations .entry)) (now (codes .entry)) (now (codes .exit)) (now (work .entry)) (now (work .exit)) r ⌝ }
+{
+    let g = Grid {
+        rows: rows as usize,
+        cols: cols as usize,
+    };
+    directions::directions(g, elevations, codes, work)
+}
+
+// Codes to flow accumulation counts.
+#[no_mangle]
+pub extern "C" fn tervuola_counts(
+    rows: u32,
+    cols: u32,
+    codes: &[u8],
+    counts: &mut [u32],
+    work: &mut [u32],
+) -> Answer
+    ensures { λ r. ⌜ CountsPromise (gridOf rows cols) (now (codes .entry)) (now (counts .entry)) (now (counts .exit)) (now (work .entry)) (now (work .exit)) r ⌝ }
+{
+    let g = Grid {
+        rows: rows as usize,
+        cols: cols as usize,
+    };
+    counts::counts(g, codes, counts, work)
+}
+
+// Codes to basin labels.
+#[no_mangle]
+pub extern "C" fn tervuola_labels(
+    rows: u32,
+    cols: u32,
+    codes: &[u8],
+    labels: &mut [u32],
+    work: &mut [u32],
+) -> Answer
+    ensures { λ r. ⌜ LabelsPromise (gridOf rows cols) (now (codes .entry)) (now (labels .entry)) (now (labels .exit)) (now (work .entry)) (now (work .exit)) r ⌝ }
+{
+    let g = Grid {
+        rows: rows as usize,
+        cols: cols as usize,
+    };
+    labels::labels(g, codes, labels, work)
+}
+
+// Elevations to filled sheet, codes, counts and labels.
+#[no_mangle]
+pub extern "C" fn tervuola_drain(
+    rows: u32,
+    cols: u32,
+    elevations: &[i16],
+    filled: &mut [i16],
+    codes: &mut [u8],
+    counts: &mut [u32],
+    labels: &mut [u32],
+    work: &mut [u32],
+) -> Answer
+    ensures { λ r. ⌜ DrainPromise (gridOf rows cols) (now (elevations .entry)) (now (filled .entry)) (now (filled .exit)) (now (codes .entry)) (now (codes .exit)) (now (counts .entry)) (now (counts .exit)) (now (labels .entry)) (now (labels .exit)) (now (work .entry)) (now (work .exit)) r ⌝ }
+{
+    let g = Grid {
+        rows: rows as usize,
+        cols: cols as usize,
+    };
+    drainage::drain(g, elevations, filled, codes, counts, labels, work)
+}
+
+// Codes and starts to watersheds.
+#[no_mangle]
+pub extern "C" fn tervuola_watersheds(
+    rows: u32,
+    cols: u32,
+    codes: &[u8],
+    starts: &[u32],
+    watersheds: &mut [u32],
+    work: &mut [u32],
+) -> Answer
+    ensures { λ r. ⌜ WatershedsPromise (gridOf rows cols) (now (codes .entry)) (now (starts .entry)) (now (watersheds .entry)) (now (watersheds .exit)) (now (work .entry)) (now (work .exit)) r ⌝ }
+{
+    let g = Grid {
+        rows: rows as usize,
+        cols: cols as usize,
+    };
+    watersheds::watersheds(g, codes, starts, watersheds, work)
+}
+
+// Codes, counts and a threshold to starts (Table 5).
+#[no_mangle]
+pub extern "C" fn tervuola_starts(
+    rows: u32,
+    cols: u32,
+    codes: &[u8],
+    counts: &[u32],
+    threshold: u32,
+    starts: &mut [u32],
+    work: &mut [u32],
+) -> Counted
+    ensures { λ r. ⌜ StartsPromise (gridOf rows cols) (now (codes .entry)) (now (counts .entry)) threshold (now (starts .entry)) (now (starts .exit)) (now (work .entry)) (now (work .exit)) r ⌝ }
+{
+    let g = Grid {
+        rows: rows as usize,
+        cols: cols as usize,
+    };
+    starts::starts(g, codes, counts, threshold, starts, work)
+}
+
+// Elevations and labels to pour points (Table 6).
+#[no_mangle]
+pub extern "C" fn tervuola_pour_points(
+    rows: u32,
+    cols: u32,
+    elevations: &[i16],
+    labels: &[u32],
+    smaller: &mut [u32],
+    larger: &mut [u32],
+    elevation: &mut [i16],
+    cell: &mut [u32],
+) -> Counted
+    ensures { λ r. ⌜ PourPointsPromise (gridOf rows cols) (now (elevations .entry)) (now (labels .entry)) (now (smaller .entry)) (now (smaller .exit)) (now (larger .entry)) (now (larger .exit)) (now (elevation .entry)) (now (elevation .exit)) (now (cell .entry)) (now (cell .exit)) r ⌝ }
+{
+    let g = Grid {
+        rows: rows as usize,
+        cols: cols as usize,
+    };
+    pour_points::pour_points(g, elevations, labels, smaller, larger, elevation, cell)
+}
+
+// A text frame to rows, columns and elevations.
+#[no_mangle]
+pub extern "C" fn tervuola_read(text: &[u8], elevations: &mut [i16]) -> Dimensions
+    ensures { λ r. ⌜ ReadPromise (now (text .entry)) (now (elevations .entry)) (now (elevations .exit)) r ⌝ }
+{
+    reader::read(text, elevations)
+}

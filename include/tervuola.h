@@ -1,0 +1,229 @@
+/*
+ * tervuola.h - drainage of an elevation sheet: fill, flow directions, flow accumulation counts, basins.
+ *
+ * Every call is proved against the definitions in crates/grid/specs (docs/PROVED.md): for every input and every length of
+ * every buffer it gives the number, the place and every element of every result buffer as stated there.
+ *
+ * DIRECTION CODING (Jenson and Domingue 1988): north-east is 1, and it goes clockwise.
+ *
+ *         64 128   1          ESRI: 32  64 128     GRASS r.watershed: 3 2 1
+ *         32   .   2                16   .   1                        4 . 8
+ *         16   8   4                 8   4   2                        5 6 7
+ *
+ * It is NOT the ESRI coding, where east is 1: from ours to ESRI's, a code c other than 1 is c / 2, and 1 is 128.
+ * COUNTS do not include the cell itself. VOIDS (-32768) lie outside: a data cell beside a void is an outlet, as one on the
+ * border is. Nothing is filled at an outlet.
+ *
+ * Sheets. Rows and columns are each from 1 to 4,000. The cell in row r and column q, both from 0, has the number
+ * r * cols + q, and stands at that place of each sheet. Elevations are signed 16-bit numbers, -32768 the void.
+ *
+ * Buffers. Each is a pointer and then its number of elements (not bytes). A pointer must be valid for that many elements
+ * (a null pointer only with 0 elements), aligned for its type, and no result or work buffer may overlap another buffer of
+ * the same call: that is the caller's part, and the only one. Any length and any content is allowed: what does not fit is
+ * refused.
+ *
+ * A refusal (number above 0) leaves every result buffer as it was; a number up to 9 leaves the work buffer as it was too.
+ * Otherwise the work buffer's contents are free afterwards.
+ *
+ * The calls allocate nothing, keep no state, are reentrant, and use at most 512 KiB of stack.
+ */
+#ifndef TERVUOLA_H
+#define TERVUOLA_H
+
+#include <stddef.h>
+#include <stdint.h>
+
+#define TERVUOLA_VERSION_MAJOR 0
+#define TERVUOLA_VERSION_MINOR 1
+#define TERVUOLA_VERSION_PATCH 0
+
+/* The void mark, and the eight direction codes. */
+#define TERVUOLA_VOID INT16_MIN
+#define TERVUOLA_NORTH_EAST 1
+#define TERVUOLA_EAST 2
+#define TERVUOLA_SOUTH_EAST 4
+#define TERVUOLA_SOUTH 8
+#define TERVUOLA_SOUTH_WEST 16
+#define TERVUOLA_WEST 32
+#define TERVUOLA_NORTH_WEST 64
+#define TERVUOLA_NORTH 128
+
+/* The text formats: at most this many bytes, and this many cells. */
+#define TERVUOLA_TEXT_BYTES 11529
+#define TERVUOLA_TEXT_CELLS 2304
+
+#ifdef __cplusplus
+extern "C" {
+#endif
+
+/* Why a call refused: the first question at the gate that is answered no. The place is 0 unless it is named here. */
+enum tervuola_number {
+    TERVUOLA_OK = 0,              /* accepted */
+    TERVUOLA_TEXT_TOO_LONG = 1,   /* the text has more than 11,529 bytes */
+    TERVUOLA_BAD_BYTE = 2,        /* a byte is no hexadecimal digit and no line feed; place: the first such byte, from 0 */
+    TERVUOLA_BAD_SHAPE = 3,       /* the text is not a header line and rows lines of 4 digits a column, each ended by a line feed */
+    TERVUOLA_TOO_MANY_CELLS = 4,  /* a text with more than 2,304 cells */
+    TERVUOLA_BAD_ROWS = 5,        /* rows not from 1 to 4,000 */
+    TERVUOLA_BAD_COLS = 6,        /* columns not from 1 to 4,000 */
+    TERVUOLA_BAD_INPUT = 7,       /* an input sheet has not rows * columns elements */
+    TERVUOLA_BAD_RESULT = 8,      /* a result sheet has not rows * columns elements, or the four columns have unlike lengths */
+    TERVUOLA_SHORT_WORK = 9,      /* the work buffer has fewer than 4 * rows * columns elements */
+    TERVUOLA_NO_LEVEL = 10,       /* a data cell has no way down; place: the first such cell */
+    TERVUOLA_BAD_CODE = 11,       /* a code is neither 0 nor one of the eight; place: the first such cell */
+    TERVUOLA_ENDLESS = 12,        /* a route does not end; place: the first cell with such a route */
+    TERVUOLA_BAD_START = 13,      /* a start where the code is 0; place: the first such cell */
+    TERVUOLA_SHORT_COLUMNS = 14   /* the columns do not hold all pairs; place: the number of pairs */
+};
+
+typedef struct {
+    uint32_t number; /* enum tervuola_number */
+    uint32_t place;
+} tervuola_answer;
+
+typedef struct {
+    uint32_t number;
+    uint32_t place;
+    uint32_t count; /* 0 beside a refusal */
+} tervuola_counted;
+
+typedef struct {
+    uint32_t number;
+    uint32_t place;
+    uint32_t rows; /* 0 beside a refusal */
+    uint32_t cols;
+} tervuola_dimensions;
+
+/* The number of 32-bit elements that a work buffer needs; 0 where rows or columns are refused anyway. */
+static inline size_t tervuola_work_size(uint32_t rows, uint32_t cols)
+{
+    return rows < 1 || rows > 4000 || cols < 1 || cols > 4000 ? 0 : (size_t)4 * rows * cols;
+}
+
+/* A short sentence for a number. */
+static inline const char *tervuola_text(uint32_t number)
+{
+    switch (number) {
+    case TERVUOLA_OK: return "accepted";
+    case TERVUOLA_TEXT_TOO_LONG: return "the text is longer than 11529 bytes";
+    case TERVUOLA_BAD_BYTE: return "a byte is no hexadecimal digit and no line feed";
+    case TERVUOLA_BAD_SHAPE: return "the text is not a header and its rows";
+    case TERVUOLA_TOO_MANY_CELLS: return "a text may have at most 2304 cells";
+    case TERVUOLA_BAD_ROWS: return "the rows are not from 1 to 4000";
+    case TERVUOLA_BAD_COLS: return "the columns are not from 1 to 4000";
+    case TERVUOLA_BAD_INPUT: return "an input sheet has not rows * columns elements";
+    case TERVUOLA_BAD_RESULT: return "a result buffer has the wrong length";
+    case TERVUOLA_SHORT_WORK: return "the work buffer has fewer than 4 * rows * columns elements";
+    case TERVUOLA_NO_LEVEL: return "a data cell has no way down: the sheet is not depressionless";
+    case TERVUOLA_BAD_CODE: return "a direction code is neither 0 nor one of the eight";
+    case TERVUOLA_ENDLESS: return "a route does not end";
+    case TERVUOLA_BAD_START: return "a start lies on a cell without a direction code";
+    case TERVUOLA_SHORT_COLUMNS: return "the columns do not hold all pairs";
+    default: return "unknown number";
+    }
+}
+
+/*
+ * The depressionless sheet: each data cell raised to the lowest level from which water can leave it.
+ * elevations: rows * cols. filled: rows * cols, the result. work: at least 4 * rows * cols.
+ * Numbers: 5 6 7 8 9. Promise: FillPromise (crates/grid/specs/Promises.antt). Linear in the number of cells.
+ */
+tervuola_answer tervuola_fill(uint32_t rows, uint32_t cols,
+                              const int16_t *elevations, size_t elevations_len,
+                              int16_t *filled, size_t filled_len,
+                              uint32_t *work, size_t work_len);
+
+/*
+ * The flow direction of each cell of a sheet as it is handed in (it is not filled first): 0 at a void.
+ * elevations: rows * cols. codes: rows * cols, the result. work: at least 4 * rows * cols.
+ * Numbers: 5 6 7 8 9 10. Promise: DirectionsPromise.
+ */
+tervuola_answer tervuola_directions(uint32_t rows, uint32_t cols,
+                                    const int16_t *elevations, size_t elevations_len,
+                                    uint8_t *codes, size_t codes_len,
+                                    uint32_t *work, size_t work_len);
+
+/*
+ * Flow accumulation: the number of other cells whose routes pass through the cell, from any sheet of codes.
+ * codes: rows * cols. counts: rows * cols, the result. work: at least 4 * rows * cols.
+ * Numbers: 5 6 7 8 9 11 12. Promise: CountsPromise.
+ */
+tervuola_answer tervuola_counts(uint32_t rows, uint32_t cols,
+                                const uint8_t *codes, size_t codes_len,
+                                uint32_t *counts, size_t counts_len,
+                                uint32_t *work, size_t work_len);
+
+/*
+ * Basins: 1 plus the number of the last cell of the cell's route; 0 where the code is 0. From any sheet of codes.
+ * codes: rows * cols. labels: rows * cols, the result. work: at least 4 * rows * cols.
+ * Numbers: 5 6 7 8 9 11 12. Promise: LabelsPromise.
+ */
+tervuola_answer tervuola_labels(uint32_t rows, uint32_t cols,
+                                const uint8_t *codes, size_t codes_len,
+                                uint32_t *labels, size_t labels_len,
+                                uint32_t *work, size_t work_len);
+
+/*
+ * The four results in one call: the filled sheet, its directions, and the counts and labels of these.
+ * Numbers: 5 6 7 8 9. Promise: DrainPromise, with demand 3 (Guarantee.antt) for every accepted sheet.
+ */
+tervuola_answer tervuola_drain(uint32_t rows, uint32_t cols,
+                               const int16_t *elevations, size_t elevations_len,
+                               int16_t *filled, size_t filled_len,
+                               uint8_t *codes, size_t codes_len,
+                               uint32_t *counts, size_t counts_len,
+                               uint32_t *labels, size_t labels_len,
+                               uint32_t *work, size_t work_len);
+
+/*
+ * Watersheds from starts: the label of the first start on the cell's route, itself included, or 0.
+ * codes, starts (0 for none): rows * cols. watersheds: rows * cols, the result. work: at least 4 * rows * cols.
+ * Numbers: 5 6 7 8 9 11 12 13. Promise: WatershedsPromise.
+ */
+tervuola_answer tervuola_watersheds(uint32_t rows, uint32_t cols,
+                                    const uint8_t *codes, size_t codes_len,
+                                    const uint32_t *starts, size_t starts_len,
+                                    uint32_t *watersheds, size_t watersheds_len,
+                                    uint32_t *work, size_t work_len);
+
+/*
+ * Table 5: starts where the count, and the rise of the count to the cell flowed into, are both above the threshold;
+ * numbered 1, 2, 3 .. by rising cell number, 0 elsewhere. Reports the number of starts.
+ * codes, counts (any): rows * cols. starts: rows * cols, the result. work: at least 4 * rows * cols.
+ * Numbers: 5 6 7 8 9 11 12. Promise: StartsPromise.
+ */
+tervuola_counted tervuola_starts(uint32_t rows, uint32_t cols,
+                                 const uint8_t *codes, size_t codes_len,
+                                 const uint32_t *counts, size_t counts_len,
+                                 uint32_t threshold,
+                                 uint32_t *starts, size_t starts_len,
+                                 uint32_t *work, size_t work_len);
+
+/*
+ * Table 6: for each pair of labels that touch (0 is a label), the lowest pour point between them: smaller label, larger
+ * label, elevation and cell, in rising order of the two labels. Reports the number of pairs; places past it are untouched.
+ * elevations, labels: rows * cols. The four columns: one length. No work buffer.
+ * Cost for p pairs: one scan of the sheet below 16,384 pairs, else about p / 8,192 + 2 scans; and moves within a sorted batch of
+ * 16,384 pairs, at worst (labels that fall along the sheet) some p * p / 2 of them. 10,000 pairs at 4,000 square: seconds.
+ * Numbers: 5 6 7 8 14. Promise: PourPointsPromise.
+ */
+tervuola_counted tervuola_pour_points(uint32_t rows, uint32_t cols,
+                                      const int16_t *elevations, size_t elevations_len,
+                                      const uint32_t *labels, size_t labels_len,
+                                      uint32_t *smaller, size_t smaller_len,
+                                      uint32_t *larger, size_t larger_len,
+                                      int16_t *elevation, size_t elevation_len,
+                                      uint32_t *cell, size_t cell_len);
+
+/*
+ * Reads a text frame (docs/FORMATS.md) of any bytes into rows, columns and elevations.
+ * elevations: at least rows * cols, places past them are untouched; 2,304 always suffice.
+ * Numbers: 1 2 3 4 5 6 8. Promise: ReadPromise.
+ */
+tervuola_dimensions tervuola_read(const uint8_t *text, size_t text_len,
+                                  int16_t *elevations, size_t elevations_len);
+
+#ifdef __cplusplus
+}
+#endif
+
+#endif

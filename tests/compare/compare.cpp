@@ -1,0 +1,344 @@
+// Every call of libtervuola.a against the second program, on its sheets, on random codes and on wrong lengths.
+//   compare ROUNDS [SEED]      sheets up to 40 by 40
+//   compare big KIND SIDE      one large sheet, by the second program's fast layer
+// A result buffer is lent with guard elements on both sides, and holds a pattern before the call; a no must leave it, and the work buffer up to question 9.
+#include "../../include/tervuola.h"
+#include "../second/gen.hpp"
+#include <cstring>
+using namespace oracle;
+
+static u64 checks = 0;
+[[noreturn]] static void fail(const char *call, const char *what, u64 round) {
+  fprintf(stderr, "compare: %s: %s differs (round %llu)\n", call, what, (unsigned long long)round);
+  exit(1);
+}
+
+// A lent buffer: n elements of a pattern between two guards.
+template <class T> struct Lent {
+  V<T> all;
+  size_t n;
+  static T pattern(size_t i) { return (T)(0x5A17u * (i + 1) + 3); }
+  explicit Lent(size_t n) : all(n + 32), n(n) {
+    for (size_t i = 0; i < all.size(); i++)
+      all[i] = pattern(i);
+  }
+  T *at() { return all.data() + 16; }
+  V<T> list() const { return V<T>(all.begin() + 16, all.begin() + 16 + n); }
+  bool guarded() const {
+    for (size_t i = 0; i < 16; i++)
+      if (all[i] != pattern(i) || all[16 + n + i] != pattern(16 + n + i))
+        return false;
+    return true;
+  }
+  bool untouched() const {
+    for (size_t i = 0; i < all.size(); i++)
+      if (all[i] != pattern(i))
+        return false;
+    return true;
+  }
+};
+
+static void same_answer(const char *call, u32 number, u64 place, const Reply &r, u64 round) {
+  checks++;
+  if (number != r.number)
+    fail(call, "number", round);
+  if (place != r.place)
+    fail(call, "place", round);
+}
+template <class T> static void same_list(const char *call, const char *what, const Lent<T> &got, const V<T> &want, u64 round) {
+  checks++;
+  if (!got.guarded())
+    fail(call, "a place outside the buffer", round);
+  if (got.list() != want)
+    fail(call, what, round);
+}
+static void same_work(const char *call, u32 number, const Lent<u32> &work, u64 round) {
+  checks++;
+  if (!work.guarded())
+    fail(call, "a place outside the work buffer", round);
+  if (number >= 1 && number <= 9 && !work.untouched())
+    fail(call, "the work buffer beside a number up to 9", round);
+}
+
+// what is lent, with now and then a wrong length or a wrong size
+struct Lengths {
+  gen::Rng &g;
+  bool wrong;
+  size_t of(size_t n) {
+    if (!wrong || !g.chance(25))
+      return n;
+    return g.chance(50) ? n + 1 + g.below(3) : n - (n ? 1 : 0);
+  }
+  size_t work(size_t n) {
+    if (wrong && g.chance(25))
+      return n ? 4 * n - 1 - g.below(n) : 0;
+    return 4 * n + (g.chance(30) ? g.below(9) : 0);
+  }
+  u64 side(u64 k) {
+    if (!wrong || !g.chance(15))
+      return k;
+    static const u64 odd[] = {0, 4001, 65536, 4294967295u};
+    return odd[g.below(4)];
+  }
+};
+template <class T> static V<T> resized(const V<T> &v, size_t n) {
+  V<T> r(v);
+  r.resize(n);
+  return r;
+}
+
+#ifdef HAVE_FILL
+static void fill_round(const Desc &d, const V<i16> &e0, Lengths len, u64 round) {
+  V<i16> e = resized(e0, len.of(e0.size()));
+  Lent<i16> out(len.of(e0.size()));
+  Lent<u32> work(len.work(e0.size()));
+  V<i16> want = out.list();
+  Reply r = call_fill(d, e, want, work.n);
+  tervuola_answer a = tervuola_fill((u32)d.rows, (u32)d.cols, e.data(), e.size(), out.at(), out.n, work.at(), work.n);
+  same_answer("fill", a.number, a.place, r, round);
+  same_list("fill", "the filled sheet", out, want, round);
+  same_work("fill", a.number, work, round);
+}
+#endif
+#ifdef HAVE_DIRECTIONS
+static void directions_round(const Desc &d, const V<i16> &e0, Lengths len, u64 round) {
+  V<i16> e = resized(e0, len.of(e0.size()));
+  Lent<u8> out(len.of(e0.size()));
+  Lent<u32> work(len.work(e0.size()));
+  V<u8> want = out.list();
+  Reply r = call_directions(d, e, want, work.n);
+  tervuola_answer a = tervuola_directions((u32)d.rows, (u32)d.cols, e.data(), e.size(), out.at(), out.n, work.at(), work.n);
+  same_answer("directions", a.number, a.place, r, round);
+  same_list("directions", "the codes", out, want, round);
+  same_work("directions", a.number, work, round);
+}
+#endif
+typedef tervuola_answer (*from_codes)(u32, u32, const u8 *, size_t, u32 *, size_t, u32 *, size_t);
+typedef Reply (*said_of_codes)(u64, u64, const V<u8> &, V<u32> &, u64);
+static void codes_round(const char *name, from_codes call, said_of_codes said, const Desc &d, const V<u8> &c0, Lengths len, u64 round) {
+  V<u8> c = resized(c0, len.of(c0.size()));
+  Lent<u32> out(len.of(c0.size())), work(len.work(c0.size()));
+  V<u32> want = out.list();
+  Reply r = said(d.rows, d.cols, c, want, work.n);
+  tervuola_answer a = call((u32)d.rows, (u32)d.cols, c.data(), c.size(), out.at(), out.n, work.at(), work.n);
+  same_answer(name, a.number, a.place, r, round);
+  same_list(name, "the result", out, want, round);
+  same_work(name, a.number, work, round);
+}
+#ifdef HAVE_WATERSHEDS
+static void watersheds_round(const Desc &d, const V<u8> &c0, gen::Rng &g, Lengths len, u64 round) {
+  V<u8> c = resized(c0, len.of(c0.size()));
+  V<u32> s(len.of(c0.size()));
+  for (size_t i = 0; i < s.size(); i++)
+    s[i] = (i < c.size() && c[i]) || g.chance(1) ? (g.chance(20) ? (u32)(g.chance(80) ? 1 + g.below(9) : g.g()) : 0) : 0;
+  Lent<u32> out(len.of(c0.size())), work(len.work(c0.size()));
+  V<u32> want = out.list();
+  Reply r = call_watersheds(d.rows, d.cols, c, s, want, work.n);
+  tervuola_answer a = tervuola_watersheds((u32)d.rows, (u32)d.cols, c.data(), c.size(), s.data(), s.size(), out.at(), out.n, work.at(), work.n);
+  same_answer("watersheds", a.number, a.place, r, round);
+  same_list("watersheds", "the watersheds", out, want, round);
+  same_work("watersheds", a.number, work, round);
+}
+#endif
+#ifdef HAVE_STARTS
+static void starts_round(const Desc &d, const V<u8> &c0, gen::Rng &g, Lengths len, u64 round) {
+  V<u8> c = resized(c0, len.of(c0.size()));
+  V<u32> n(len.of(c0.size()));
+  u32 t = g.chance(80) ? (u32)g.below(4) : (u32)g.g();
+  for (auto &x : n)
+    x = g.chance(90) ? (u32)g.below(12) : (u32)g.g();
+  Lent<u32> out(len.of(c0.size())), work(len.work(c0.size()));
+  V<u32> want = out.list();
+  Reply r = call_table5(d.rows, d.cols, c, n, t, want, work.n);
+  tervuola_counted a = tervuola_starts((u32)d.rows, (u32)d.cols, c.data(), c.size(), n.data(), n.size(), t, out.at(), out.n, work.at(), work.n);
+  same_answer("starts", a.number, a.place, r, round);
+  if (a.count != r.count)
+    fail("starts", "the number of starts", round);
+  same_list("starts", "the starts", out, want, round);
+  same_work("starts", a.number, work, round);
+}
+#endif
+#ifdef HAVE_POUR_POINTS
+static void pour_points_round(const Desc &d, const V<i16> &e0, gen::Rng &g, Lengths len, u64 round) {
+  V<i16> e = resized(e0, len.of(e0.size()));
+  V<u32> l(len.of(e0.size()));
+  u64 kinds = g.chance(50) ? 1 + g.below(6) : 1 + g.below(2 * l.size() + 1);
+  for (auto &x : l)
+    x = g.chance(98) ? (u32)g.below(kinds) : (u32)g.g();
+  V<u32> none;
+  size_t pairs = e.size() == d.n() && l.size() == d.n() && d.n() ? oracle::pairs(d.rows, d.cols, e, l).size() : 0;
+  size_t k = g.chance(40) ? pairs : g.chance(50) ? pairs + g.below(5) : pairs ? pairs - 1 : 0;
+  Lent<u32> a(k), b(len.of(k)), c(len.of(k));
+  Lent<i16> z(len.of(k));
+  V<u32> wa = a.list(), wb = b.list(), wc = c.list();
+  V<i16> wz = z.list();
+  Reply r = call_table6(d.rows, d.cols, e, l, wa, wb, wz, wc);
+  tervuola_counted x = tervuola_pour_points((u32)d.rows, (u32)d.cols, e.data(), e.size(), l.data(), l.size(), a.at(), a.n, b.at(), b.n, z.at(), z.n, c.at(), c.n);
+  same_answer("pour_points", x.number, x.place, r, round);
+  if (x.count != r.count)
+    fail("pour_points", "the number of pairs", round);
+  same_list("pour_points", "the smaller labels", a, wa, round);
+  same_list("pour_points", "the larger labels", b, wb, round);
+  same_list("pour_points", "the elevations", z, wz, round);
+  same_list("pour_points", "the cells", c, wc, round);
+}
+#endif
+#ifdef HAVE_DRAIN
+static void drain_round(const Desc &d, const V<i16> &e0, Lengths len, u64 round) {
+  V<i16> e = resized(e0, len.of(e0.size()));
+  Lent<i16> f(len.of(e0.size()));
+  Lent<u8> k(len.of(e0.size()));
+  Lent<u32> n(len.of(e0.size())), l(len.of(e0.size())), work(len.work(e0.size()));
+  Four want;
+  want.filled = f.list();
+  want.codes = k.list();
+  want.counts = n.list();
+  want.labels = l.list();
+  Reply r = call_four(d, e, want, work.n);
+  tervuola_answer a = tervuola_drain((u32)d.rows, (u32)d.cols, e.data(), e.size(), f.at(), f.n, k.at(), k.n, n.at(), n.n, l.at(), l.n, work.at(), work.n);
+  same_answer("drain", a.number, a.place, r, round);
+  same_list("drain", "the filled sheet", f, want.filled, round);
+  same_list("drain", "the codes", k, want.codes, round);
+  same_list("drain", "the counts", n, want.counts, round);
+  same_list("drain", "the labels", l, want.labels, round);
+  same_work("drain", a.number, work, round);
+}
+#endif
+#ifdef HAVE_READ
+static void read_round(const std::string &t, gen::Rng &g, u64 round) {
+  Lent<i16> out(g.chance(70) ? 2304 : g.below(2400));
+  V<i16> want = out.list();
+  Reply r = call_read(t, want);
+  tervuola_dimensions a = tervuola_read((const u8 *)t.data(), t.size(), out.at(), out.n);
+  same_answer("read", a.number, a.place, r, round);
+  if (a.rows != r.rows || a.cols != r.cols)
+    fail("read", "rows and columns", round);
+  same_list("read", "the sheet", out, want, round);
+}
+#endif
+
+// codes: random, from a sheet, or those with a ring or a bad byte
+static V<u8> some_codes(gen::Rng &g, const Desc &d, const V<i16> &e) {
+  u64 n = d.n();
+  V<u8> c(n);
+  switch (g.below(5)) {
+  case 0:
+    for (auto &x : c)
+      x = g.chance(10) ? 0 : (u8)(1u << g.below(8));
+    return c;
+  case 1:
+    for (auto &x : c)
+      x = g.chance(3) ? (u8)g.below(256) : (u8)(1u << g.below(8));
+    return c;
+  case 2: // one way with few exceptions: long routes, now and then a ring
+    for (auto &x : c)
+      x = g.chance(95) ? (u8)2 : (u8)(1u << g.below(8));
+    return c;
+  case 3:
+    return gen::codes(g.g() % 100000, d.rows, d.cols, (int)g.below(4));
+  default: {
+    V<u8> k;
+    directions(d, oracle::fill(d, e), k);
+    return k;
+  }
+  }
+}
+
+static int rounds(u64 count, u64 seed) {
+  auto &kinds = gen::kinds();
+  auto &bad = gen::badkinds();
+  for (u64 i = 0; i < count; i++) {
+    gen::Rng g(seed * 1000003 + i);
+    u64 side = g.chance(70) ? 9 : g.chance(70) ? 20 : 40;
+    auto s = gen::sheet(kinds[i % kinds.size()], g.g() % 1000000, 1 + g.below(side), 1 + g.below(side), side);
+    Desc d;
+    d.rows = s.rows;
+    d.cols = s.cols;
+    ENGINE = d.n() <= 100 ? LITERAL : FAST;
+    Lengths len{g, g.chance(20)};
+    V<i16> filled = oracle::fill(d, s.e);
+    V<u8> codes = some_codes(g, d, s.e);
+    (void)filled;
+    d.rows = len.side(d.rows);
+    d.cols = len.side(d.cols);
+#ifdef HAVE_FILL
+    fill_round(d, s.e, len, i);
+#endif
+#ifdef HAVE_DIRECTIONS
+    directions_round(d, s.e, len, i);
+    directions_round(d, filled, len, i);
+#endif
+#ifdef HAVE_COUNTS
+    codes_round("counts", tervuola_counts, call_counts, d, codes, len, i);
+#endif
+#ifdef HAVE_LABELS
+    codes_round("labels", tervuola_labels, call_labels, d, codes, len, i);
+#endif
+#ifdef HAVE_WATERSHEDS
+    watersheds_round(d, codes, g, len, i);
+#endif
+#ifdef HAVE_STARTS
+    starts_round(d, codes, g, len, i);
+#endif
+#ifdef HAVE_POUR_POINTS
+    pour_points_round(d, s.e, g, len, i);
+#endif
+#ifdef HAVE_DRAIN
+    drain_round(d, s.e, len, i);
+#endif
+#ifdef HAVE_READ
+    read_round(gen::badtext(bad[i % bad.size()], g.g() % 1000000), g, i);
+    if (s.rows * s.cols <= 2304)
+      read_round(gen::text(s), g, i);
+#endif
+    (void)bad;
+  }
+  printf("compare: %llu rounds, %llu comparisons, all equal\n", (unsigned long long)count, (unsigned long long)checks);
+  return checks ? 0 : 1;
+}
+
+static int big(const char *kind, u64 side) {
+  ENGINE = FAST;
+  auto s = gen::sheet(kind, 7, side, side);
+  Desc d;
+  d.rows = s.rows;
+  d.cols = s.cols;
+  gen::Rng g(side);
+  Lengths len{g, false};
+  V<i16> filled = oracle::fill(d, s.e);
+  V<u8> codes;
+  directions(d, filled, codes);
+#ifdef HAVE_FILL
+  fill_round(d, s.e, len, 0);
+#endif
+#ifdef HAVE_DIRECTIONS
+  directions_round(d, filled, len, 0);
+#endif
+#ifdef HAVE_COUNTS
+  codes_round("counts", tervuola_counts, call_counts, d, codes, len, 0);
+#endif
+#ifdef HAVE_LABELS
+  codes_round("labels", tervuola_labels, call_labels, d, codes, len, 0);
+#endif
+#ifdef HAVE_WATERSHEDS
+  watersheds_round(d, codes, g, len, 0);
+#endif
+#ifdef HAVE_STARTS
+  starts_round(d, codes, g, len, 0);
+#endif
+#ifdef HAVE_DRAIN
+  drain_round(d, s.e, len, 0);
+#endif
+  printf("compare: %s at %llu square, %llu comparisons, all equal\n", kind, (unsigned long long)side, (unsigned long long)checks);
+  return checks ? 0 : 1;
+}
+
+int main(int argc, char **argv) {
+  if (argc == 4 && !strcmp(argv[1], "big"))
+    return big(argv[2], strtoull(argv[3], 0, 10));
+  if (argc < 2) {
+    fprintf(stderr, "compare ROUNDS [SEED] | compare big KIND SIDE\n");
+    return 2;
+  }
+  return rounds(strtoull(argv[1], 0, 10), argc > 2 ? strtoull(argv[2], 0, 10) : 1);
+}

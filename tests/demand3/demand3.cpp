@@ -1,0 +1,176 @@
+// Demand 3 by brute force on tiny sheets, as a test of the statement: every chain without repeats, every rival sheet over three levels.
+// It looks only at the four results of tervuola_drain and at document 01's sentences.
+#include "../../include/tervuola.h"
+#include <cstdio>
+#include <cstdlib>
+#include <random>
+#include <set>
+#include <vector>
+using std::vector;
+
+static const int STEP[8][2] = {{-1, 1}, {0, 1}, {1, 1}, {1, 0}, {1, -1}, {0, -1}, {-1, -1}, {-1, 0}};
+static int rows, cols;
+static vector<int16_t> e;
+static unsigned long facts = 0;
+
+static int at_step(int c, int p) {
+  int r = c / cols + STEP[p][0], q = c % cols + STEP[p][1];
+  return r < 0 || q < 0 || r >= rows || q >= cols ? -1 : r * cols + q;
+}
+static bool data(int c) { return e[(size_t)c] != TERVUOLA_VOID; }
+static bool outlet(int c) {
+  if (!data(c))
+    return false;
+  for (int p = 0; p < 8; p++) {
+    int n = at_step(c, p);
+    if (n < 0 || !data(n))
+      return true;
+  }
+  return false;
+}
+static void hold(bool fact, const char *what) {
+  facts++;
+  if (fact)
+    return;
+  printf("demand 3: %s fails on %d x %d:", what, rows, cols);
+  for (int16_t x : e)
+    printf(" %d", x);
+  printf("\n");
+  exit(1);
+}
+
+// the lowest highest elevation over all chains without repeats from c to an outlet
+static void chains(int c, int high, vector<char> &on, int &best) {
+  if (e[(size_t)c] > high)
+    high = e[(size_t)c];
+  if (outlet(c) && high < best)
+    best = high;
+  on[(size_t)c] = 1;
+  for (int p = 0; p < 8; p++) {
+    int n = at_step(c, p);
+    if (n >= 0 && data(n) && !on[(size_t)n])
+      chains(n, high, on, best);
+  }
+  on[(size_t)c] = 0;
+}
+
+// from each data cell some chain to an outlet never rises on f
+static bool drains(const vector<int16_t> &f) {
+  size_t n = e.size();
+  vector<char> ok(n, 0);
+  for (size_t i = 0; i < n; i++)
+    ok[i] = outlet((int)i);
+  for (bool more = true; more;) {
+    more = false;
+    for (size_t i = 0; i < n; i++)
+      if (data((int)i) && !ok[i])
+        for (int p = 0; p < 8; p++) {
+          int k = at_step((int)i, p);
+          if (k >= 0 && data(k) && ok[(size_t)k] && f[(size_t)k] <= f[i])
+            ok[i] = 1, more = true;
+        }
+  }
+  for (size_t i = 0; i < n; i++)
+    if (data((int)i) && !ok[i])
+      return false;
+  return true;
+}
+
+static void sheet() {
+  size_t n = e.size();
+  vector<int16_t> filled(n);
+  vector<uint8_t> codes(n);
+  vector<uint32_t> counts(n), labels(n), work(4 * n), through(n, 0);
+  tervuola_answer a = tervuola_drain((uint32_t)rows, (uint32_t)cols, e.data(), n, filled.data(), n, codes.data(), n, counts.data(), n, labels.data(), n, work.data(), 4 * n);
+  hold(a.number == 0, "acceptance");
+  for (size_t i = 0; i < n; i++) {
+    int c = (int)i;
+    if (!data(c)) {
+      hold(filled[i] == TERVUOLA_VOID && codes[i] == 0 && counts[i] == 0 && labels[i] == 0, "a void");
+      continue;
+    }
+    std::set<int> seen;
+    int x = c, high = -32768, last = c;
+    for (;;) {
+      hold(seen.insert(x).second, "passing no cell twice");
+      if (x != c)
+        through[(size_t)x]++;
+      if (e[(size_t)x] > high)
+        high = e[(size_t)x];
+      last = x;
+      int p = 0;
+      while (p < 8 && codes[(size_t)x] != 1 << p)
+        p++;
+      hold(p < 8, "a code");
+      int k = at_step(x, p);
+      if (k < 0 || codes[(size_t)k] == 0)
+        break;
+      x = k;
+    }
+    hold(outlet(last), "ending at an outlet");
+    hold(labels[i] == (uint32_t)last + 1, "the label");
+    hold(high == filled[i], "the highest elevation of the route");
+    hold(filled[i] >= e[i], "not below the input");
+    vector<char> on(n, 0);
+    int best = 32767;
+    chains(c, -32768, on, best);
+    hold(best >= high, "no lower chain");
+  }
+  for (size_t i = 0; i < n; i++)
+    hold(!data((int)i) || counts[i] == through[i], "the count");
+  hold(drains(filled), "a never-rising chain");
+  vector<int16_t> f(e); // every rival sheet over the levels 0, 1, 2
+  for (;;) {
+    bool above = true;
+    for (size_t i = 0; i < n && above; i++)
+      above = !data((int)i) || f[i] >= e[i];
+    if (above && drains(f))
+      for (size_t i = 0; i < n; i++)
+        hold(!data((int)i) || filled[i] <= f[i], "no rival sheet is lower");
+    size_t i = 0;
+    while (i < n && (!data((int)i) || f[i] == 2)) {
+      if (data((int)i))
+        f[i] = e[i];
+      i++;
+    }
+    if (i == n)
+      break;
+    f[i]++;
+  }
+}
+
+int main() {
+  std::mt19937 g(1);
+  unsigned long sheets = 0;
+  for (int size = 0; size < 4; size++) { // all sheets of these sizes
+    static const int sides[4][2] = {{1, 1}, {1, 4}, {2, 2}, {2, 3}};
+    rows = sides[size][0], cols = sides[size][1];
+    size_t n = (size_t)(rows * cols);
+    unsigned long all = 1;
+    for (size_t i = 0; i < n; i++)
+      all *= 4;
+    for (unsigned long k = 0; k < all; k++) {
+      e.assign(n, 0);
+      unsigned long v = k;
+      for (auto &x : e)
+        x = v % 4 == 3 ? (int16_t)TERVUOLA_VOID : (int16_t)(v % 4), v /= 4;
+      sheet();
+      sheets++;
+    }
+  }
+  for (int k = 0; k < 1500; k++) { // some of these
+    rows = k % 3 == 0 ? 3 : k % 3 == 1 ? 4 : 3, cols = k % 3 == 2 ? 4 : 3;
+    e.assign((size_t)(rows * cols), 0);
+    unsigned voids = g() % 3 ? 0 : 10;
+    for (auto &x : e)
+      x = g() % 100 < voids ? (int16_t)TERVUOLA_VOID : (int16_t)(g() % 3);
+    for (int r = 1; r + 1 < rows; r++) // hollows are likely inside
+      for (int q = 1; q + 1 < cols; q++)
+        if (g() % 2)
+          e[(size_t)(r * cols + q)] = 0;
+    sheet();
+    sheets++;
+  }
+  printf("demand 3: %lu facts on %lu tiny sheets\n", facts, sheets);
+  return 0;
+}
