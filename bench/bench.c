@@ -1,0 +1,118 @@
+/*
+ * bench.c - the library against the expert's C (baseline.c), both in this process, on the same sheet.
+ *
+ *   bench FILE.bil ROWS COLS [RUNS]
+ *
+ * Prints, for each step and for the whole, the best of RUNS (default 3) of each side in nanoseconds of processor time for a
+ * cell, and their ratio, library to baseline; and fails where a result differs. Buffers are written once before any clock
+ * starts. The baseline's fill needs its outlets and its counts and labels need its ways, so these count with the steps that use
+ * them: outlets with the fill, ways with the counts and with the labels.
+ */
+#define main baseline_main
+#include "baseline.c"
+#undef main
+#include "../include/tervuola.h"
+
+static void same(const char *what, const void *a, const void *b, size_t n)
+{
+    if (memcmp(a, b, n)) {
+        fprintf(stderr, "bench: %s differs\n", what);
+        exit(1);
+    }
+}
+
+static void accepted(tervuola_answer a)
+{
+    if (a.number) {
+        fprintf(stderr, "bench: refused: %s\n", tervuola_text(a.number));
+        exit(1);
+    }
+}
+
+enum { B_FILL, B_DIR, B_ACC, B_LAB, B_ALL, B_N };
+static const char *const names[B_N] = { "fill", "directions", "counts", "labels", "whole" };
+
+static void least(double *best, double t)
+{
+    if (t < *best) *best = t;
+}
+
+int main(int argc, char **argv)
+{
+    if (argc < 4) {
+        fprintf(stderr, "usage: bench FILE.bil ROWS COLS [RUNS]\n");
+        return 2;
+    }
+    struct sheet s = { (uint32_t)atoi(argv[2]), (uint32_t)atoi(argv[3]), 0 };
+    if (s.rows < 1 || s.cols < 1 || s.rows > 4000 || s.cols > 4000) return 2;
+    s.cells = s.rows * s.cols;
+    size_t n = s.cells, work_len = tervuola_work_size(s.rows, s.cols);
+    int runs = argc > 4 ? atoi(argv[4]) : 3;
+    int16_t *z = get(2 * n), *f = get(2 * n), *f2 = get(2 * n);
+    uint8_t *code = get(n), *byte = get(n), *way = get(n), *code2 = get(n);
+    uint32_t *acc = get(4 * n), *lab = get(4 * n), *w0 = get(4 * n), *w1 = get(4 * n);
+    uint32_t *acc2 = get(4 * n), *lab2 = get(4 * n), *work = get(4 * work_len);
+    FILE *in = fopen(argv[1], "rb");
+    if (!in || fread(z, 2, n, in) != n) { perror(argv[1]); return 2; }
+    fclose(in);
+    make_tables(s);
+    /* a small sheet is worked out many times between two readings of the clock */
+    int times = n < 100000 ? (int)(2000000 / n) + 1 : 1;
+    double base[B_N], ours[B_N];
+    for (int k = 0; k < B_N; k++) base[k] = ours[k] = 1e300;
+    for (int run = 0; run < runs; run++) {
+        double t[7] = { 0 }, u[6] = { 0 };
+        for (int k = 0; k < times; k++) {
+            double a = now();
+            outlets(s, z, code);
+            double b = now();
+            fill(s, z, code, f, w0, w1);
+            double c = now();
+            directions(s, f, code, byte, w1);
+            double d = now();
+            ways(s, code, way);
+            double e = now();
+            counts(s, way, acc, byte);
+            double g = now();
+            labels(s, code, way, lab);
+            double h = now();
+            t[0] += b - a; t[1] += c - b; t[2] += d - c; t[3] += e - d; t[4] += g - e; t[5] += h - g; t[6] += h - a;
+        }
+        least(&base[B_FILL], t[0] + t[1]);
+        least(&base[B_DIR], t[2]);
+        least(&base[B_ACC], t[3] + t[4]);
+        least(&base[B_LAB], t[3] + t[5]);
+        least(&base[B_ALL], t[6]);
+        for (int k = 0; k < times; k++) {
+            double a = now();
+            accepted(tervuola_fill(s.rows, s.cols, z, n, f2, n, work, work_len));
+            double b = now();
+            accepted(tervuola_directions(s.rows, s.cols, f, n, code2, n, work, work_len));
+            double c = now();
+            accepted(tervuola_counts(s.rows, s.cols, code, n, acc2, n, work, work_len));
+            double d = now();
+            accepted(tervuola_labels(s.rows, s.cols, code, n, lab2, n, work, work_len));
+            double e = now();
+            u[0] += b - a; u[1] += c - b; u[2] += d - c; u[3] += e - d;
+        }
+        same("the filled sheet", f, f2, 2 * n);
+        same("a code", code, code2, n);
+        same("a count", acc, acc2, 4 * n);
+        same("a label", lab, lab2, 4 * n);
+        memset(f2, 1, 2 * n); memset(code2, 1, n); memset(acc2, 1, 4 * n); memset(lab2, 1, 4 * n);
+        for (int k = 0; k < times; k++) {
+            double a = now();
+            accepted(tervuola_drain(s.rows, s.cols, z, n, f2, n, code2, n, acc2, n, lab2, n, work, work_len));
+            u[4] += now() - a;
+        }
+        same("the filled sheet of the one call", f, f2, 2 * n);
+        same("a code of the one call", code, code2, n);
+        same("a count of the one call", acc, acc2, 4 * n);
+        same("a label of the one call", lab, lab2, 4 * n);
+        for (int k = 0; k < B_N; k++) least(&ours[k], u[k]);
+    }
+    for (int k = 0; k < B_N; k++)
+        printf("  %-10s baseline %7.2f  library %7.2f ns a cell  ratio %.2f\n", names[k],
+               base[k] * 1e6 / (double)n / times, ours[k] * 1e6 / (double)n / times, ours[k] / base[k]);
+    return 0;
+}
