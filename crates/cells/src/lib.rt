@@ -80,6 +80,14 @@ pub fn key(e: i16) -> u32
     (e as i32 + 32768) as u32
 }
 
+// The same in 16 bits, for passes over whole rows: more of them fit a register.
+pub fn short_key(e: i16) -> u16
+    ensures { λ r. ⌜ r ≡ keyOf e ⌝ }
+    ensures { λ r. ⌜ (void ≤ℤ e) × (e ≤ℤ top) ⌝ }
+{
+    key(e) as u16
+}
+
 // A key's elevation.
 pub fn elevation(k: u32) -> i16
     requires { ⌜ k < 65536 ⌝ }
@@ -190,8 +198,21 @@ fn right(p: usize) -> usize
     (16490 >> 2 * p) % 4
 }
 
-// The neighbour at the position `p` for a caller that looks at all eight, and works out row, column and `inner` once: from a cell within
-// the border no step leaves the sheet, and the neighbours lie at fixed distances in the numbering.
+// The neighbour at the position `p` of a cell within the border: no step leaves the sheet, and the neighbours lie at fixed distances in the
+// numbering.
+pub fn beside(g: Grid, cell: usize, p: usize) -> usize
+    requires { ⌜ size g < 2 ^ 24 ⌝ }
+    requires { ⌜ cell < size g ⌝ }
+    requires { ⌜ Inner g (cell / g .cols) (cell % g .cols) ⌝ }
+    requires { ⌜ p < 8 ⌝ }
+    ensures { λ r. ⌜ r ≡ neighbour' g cell p ⌝ }
+    ensures { λ r. ⌜ r < size g ⌝ }
+{
+    let cols = g.cols;
+    cell + down(p) * cols + right(p) - (cols + 1)
+}
+
+// The neighbour at the position `p` for a caller that looks at all eight, and works out row, column and `inner` once.
 pub fn near(g: Grid, cell: usize, row: usize, col: usize, inner: bool, p: usize) -> usize
     requires { ⌜ size g < 2 ^ 24 ⌝ }
     requires { ⌜ cell < size g ⌝ }
@@ -202,8 +223,7 @@ pub fn near(g: Grid, cell: usize, row: usize, col: usize, inner: bool, p: usize)
     ensures { λ r. ⌜ r ≡ neighbour' g cell p ⌝ }
 {
     if inner {
-        let cols = g.cols;
-        return cell + down(p) * cols + right(p) - (cols + 1);
+        return beside(g, cell, p);
     }
     neighbour(g, cell, p)
 }
