@@ -83,6 +83,7 @@ pub fn key(e: i16) -> u32
 // The same in 16 bits, for passes over whole rows: more of them fit a register.
 pub fn short_key(e: i16) -> u16
     ensures { λ r. ⌜ r ≡ keyOf e ⌝ }
+    ensures { λ r. ⌜ r < 65536 ⌝ }
     ensures { λ r. ⌜ (void ≤ℤ e) × (e ≤ℤ top) ⌝ }
 {
     key(e) as u16
@@ -213,7 +214,7 @@ pub fn beside(g: Grid, cell: usize, p: usize) -> usize
 }
 
 // The neighbour at the position `p` for a caller that looks at all eight, and works out row, column and `inner` once.
-pub fn near(g: Grid, cell: usize, row: usize, col: usize, inner: bool, p: usize) -> usize
+fn near(g: Grid, cell: usize, row: usize, col: usize, inner: bool, p: usize) -> usize
     requires { ⌜ size g < 2 ^ 24 ⌝ }
     requires { ⌜ cell < size g ⌝ }
     requires { ⌜ row ≡ cell / g .cols ⌝ }

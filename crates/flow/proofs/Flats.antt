@@ -1,9 +1,9 @@
 -- The sum over the equal neighbours one level lower, and the code of a cell.
 use mathlib.Core.Path.{_≡_, refl, sym, _∙_, ap, subst}
 use mathlib.Core.Bool.{Bool, true, false, cond, not, _&&_, _||_}
-use mathlib.Core.Logic.{_⊎_, ⊎-elim}
+use mathlib.Core.Logic.{_⊎_, inl, inr, ⊎-elim}
 use mathlib.Core.List.{List}
-use Prim.Native.Nat.{ℕ, zero, suc, _+_, _-_, _≤_, _<_}
+use Prim.Native.Nat.{ℕ, zero, suc, _+_, _-_, _/_, _%_, _≤_, _<_}
 use native.Mathlib.Omega.{arith}
 use native.Mathlib.Decide.{ℕ-discrete}
 use lib.Dec.{eqb, ltb}
@@ -20,44 +20,65 @@ use Rattle.grid_laws.proofs.Tests.{test, and-true, and-left, and-right, same-te
 use Rattle.grid_laws.proofs.Below.{at-table, sum-suc}
 use Rattle.grid_laws.proofs.Neighbours.{at-eight}
 use Rattle.cells.specs.Keys.{levelOf}
+use Rattle.cells.specs.Steps.{Inner}
 use Rattle.flow_laws.specs.Words.{wordLevel, levelIn, levelsIn, Levelled}
 use Rattle.flow_laws.proofs.Agree.{equal-on-sheet}
 use Rattle.flow_laws.proofs.Equals.{is-equal, equal-height}
 use Rattle.flow_laws.proofs.Leads.{isBelow, flat-direction, void-code, zero-code-any}
-use Rattle.flow_laws.proofs.Words.{level-none, level-one, level-more, word-more}
+use Rattle.flow_laws.proofs.Words.{level-one, level-more, word-cases}
 use Rattle.levels.proofs.Keyed.{height-data}
+use Rattle.levels.proofs.Within.{flat-within}
 
--- ---- two words: one is one level below the other
-module _ (near word : ℕ) (high : 256 ≤ word) where
-  pub no-word : near ≡ 0 → suc (wordLevel near) ≡ wordLevel word → 0 < wordLevel near → ⊥
-  no-word z q s = let a = level-none near z in omega arith
+-- ---- two words: one is one level below the other, where it is from `low` on below it
+module _ (near low word : ℕ) (high : 256 ≤ word) (one : word ≡ 256 → low ≡ 1) (more : 256 < word → low + 1 ≡ word) where
+  pub below : low ≤ near → near < word → (suc (wordLevel near) ≡ wordLevel word) × (0 < wordLevel near)
+  below h l = go (ℕ-discrete word 256)
+    where
+      go : Dec (word ≡ 256) → (suc (wordLevel near) ≡ wordLevel word) × (0 < wordLevel near)
+      go (yes w) =
+          let o = one w in
+          let a = level-one near (omega arith) (omega arith) in
+          let b = level-more word high in
+          (omega arith, omega arith)
+      go (no w) =
+          let m = more (omega arith) in
+          let a = level-more near (omega arith) in
+          let b = level-more word high in
+          (omega arith, omega arith)
 
-  pub below-first : word ≡ 256 → 0 < near → near < 256 → (suc (wordLevel near) ≡ wordLevel word) × (0 < wordLevel near)
-  below-first w s h = let a = level-one near s h in let b = level-more word high in (omega arith, omega arith)
+  pub below-range : suc (wordLevel near) ≡ wordLevel word → 0 < wordLevel near → (low ≤ near) × (near < word)
+  below-range q s = go (ℕ-discrete word 256) (word-cases near)
+    where
+      b : wordLevel word ≡ word - 254
+      b = level-more word high
 
-  pub not-below-first : word ≡ 256 → 256 ≤ near → suc (wordLevel near) ≡ wordLevel word → ⊥
-  not-below-first w h q = let a = level-more near h in let b = level-more word high in omega arith
-
-  pub below-more : (word ≡ 256 → ⊥) → near ≡ word - 1 → (suc (wordLevel near) ≡ wordLevel word) × (0 < wordLevel near)
-  below-more w q = let a = level-more near (omega arith) in let b = level-more word high in (omega arith, omega arith)
-
-  pub not-below-more : (word ≡ 256 → ⊥) → (near ≡ word - 1 → ⊥) → suc (wordLevel near) ≡ wordLevel word → ⊥
-  not-below-more w f q =
-      let b = level-more word high in
-      let c = word-more near (omega arith) in
-      let d = c .0 in
-      let a = c .1 in
-      f (omega arith)
+      go : Dec (word ≡ 256)
+          → ((near ≡ 0) × (wordLevel near ≡ 0))
+          ⊎ (((0 < near) × (near < 256) × (wordLevel near ≡ 1)) ⊎ ((256 ≤ near) × (wordLevel near ≡ near - 254)))
+          → (low ≤ near) × (near < word)
+      go d (inl (z, l)) = let x : ⊥ = omega arith in absurd x
+      go (yes w) (inr (inl (z, l, v))) = let o = one w in (omega arith, omega arith)
+      go (no w) (inr (inl (z, l, v))) = let c = b in let x : ⊥ = w (omega arith) in absurd x
+      go (yes w) (inr (inr (z, l))) = let c = b in let x : ⊥ = omega arith in absurd x
+      go (no w) (inr (inr (z, l))) = let c = b in let m = more (omega arith) in (omega arith, omega arith)
 
 -- ---- the sum, from position to position
 pub code-doubles : (p : ℕ) → p < 8 → codeAt (p + 1) ≡ codeAt p + codeAt p
 code-doubles = at-eight (λ p. codeAt (p + 1) ≡ codeAt p + codeAt p) refl refl refl refl refl refl refl refl
 
-pub with-member : (sum p : ℕ) (b : Bool) → p < 8 → sum < codeAt p → b ≡ true → (code : ℕ) → code ≡ codeAt p → (sum + code ≡ sum + cond b (codeAt p) 0) × (sum + code < codeAt (p + 1))
-with-member sum p b h l t code q = let d = code-doubles p h in let c : cond b (codeAt p) 0 ≡ codeAt p = cond-true (codeAt p) 0 t in (omega arith, omega arith)
+pub with-member : (sum p : ℕ) (b : Bool) → p < 8 → sum < codeAt p → b ≡ true → (code : ℕ) → code ≡ codeAt p
+    → (sum + code ≡ sum + cond b (codeAt p) 0) × (sum + code < codeAt (p + 1))
+with-member sum p b h l t code q =
+    let d = code-doubles p h in
+    let c : cond b (codeAt p) 0 ≡ codeAt p = cond-true (codeAt p) 0 t in
+    (omega arith, omega arith)
 
-pub without-member : (sum p : ℕ) (b : Bool) → p < 8 → sum < codeAt p → b ≡ false → (sum ≡ sum + cond b (codeAt p) 0) × (sum < codeAt (p + 1))
-without-member sum p b h l t = let d = code-doubles p h in let c : cond b (codeAt p) 0 ≡ 0 = cond-false (codeAt p) 0 t in (omega arith, omega arith)
+pub without-member : (sum p : ℕ) (b : Bool) → p < 8 → sum < codeAt p → b ≡ false
+    → (sum ≡ sum + cond b (codeAt p) 0) × (sum < codeAt (p + 1))
+without-member sum p b h l t =
+    let d = code-doubles p h in
+    let c : cond b (codeAt p) 0 ≡ 0 = cond-false (codeAt p) 0 t in
+    (omega arith, omega arith)
 
 -- the positions below p are looked at
 pub record Summed (g : Grid) (e : List ℤ) (work : List ℕ) (cell p sum : ℕ) : Type 0 where
@@ -69,8 +90,8 @@ pub summed-none : (g : Grid) (e : List ℤ) (work : List ℕ) (cell : ℕ) → S
 unfolding sumBelow
 summed-none g e work cell = record { eight = omega arith; is = refl; small = omega arith }
 
-pub summed-more : (g : Grid) (e : List ℤ) (work : List ℕ) (cell p sum : ℕ) (b : Bool) {r : ℕ} → Summed g e work cell p sum → p < 8 → b ≡ isBelow g e (levelsIn g work) cell p
-    → r ≡ sum + cond b (codeAt p) 0 → r < codeAt (p + 1) → Summed g e work cell (p + 1) r
+pub summed-more : (g : Grid) (e : List ℤ) (work : List ℕ) (cell p sum : ℕ) (b : Bool) {r : ℕ} → Summed g e work cell p sum → p < 8
+    → b ≡ isBelow g e (levelsIn g work) cell p → r ≡ sum + cond b (codeAt p) 0 → r < codeAt (p + 1) → Summed g e work cell (p + 1) r
 summed-more g e work cell p sum b {r} S h q s l =
     record {
       eight = omega arith;
@@ -85,21 +106,33 @@ summed-more g e work cell p sum b {r} S h q s l =
     omega-suc : (x : ℕ) → suc x ≡ x + 1
     omega-suc x = omega arith
 
-pub summed-all : (g : Grid) (e : List ℤ) (work : List ℕ) (cell p sum : ℕ) → Summed g e work cell p sum → 8 ≤ p → (sum ≡ flatSum g e (levelsIn g work) cell) × (sum < 256)
+pub summed-all : (g : Grid) (e : List ℤ) (work : List ℕ) (cell p sum : ℕ) → Summed g e work cell p sum → 8 ≤ p
+    → (sum ≡ flatSum g e (levelsIn g work) cell) × (sum < 256)
 unfolding flatSum
 summed-all g e work cell p sum S h = let a = S .eight in let q : p ≡ 8 = omega arith in (rw q at (S .is), rw q at (S .small))
 
 -- what `is_below` answers is what the definition asks at the position p
-module _ (g : Grid) (e : List ℤ) (len : length e ≡ size g) (work : List ℕ) (cell : ℕ) (on : cell < size g) (k word : ℕ) (own : at e cell ≡ levelOf k) (some : 0 < k) (is-word : word ≡ getD work cell 0)
-    (p m : ℕ) (there : m ≡ neighbour g cell p) where
+module _ (g : Grid) (e : List ℤ) (len : length e ≡ size g) (work : List ℕ) (cell : ℕ) (on : cell < size g) (k word : ℕ)
+    (own : at e cell ≡ levelOf k) (some : 0 < k) (is-word : word ≡ getD work cell 0) (p m : ℕ) (there : m ≡ neighbour g cell p) where
   own-level : getD (levelsIn g work) cell 0 ≡ wordLevel word
   own-level = at-table (size g) (levelIn (size g) work) cell 0 on ∙ ap wordLevel (getD-take (size g) work cell 0 on ∙ sym is-word)
 
   near-level : neighbour g cell p < size g → getD (levelsIn g work) (neighbour g cell p) 0 ≡ wordLevel (getD work m 0)
-  near-level h = at-table (size g) (levelIn (size g) work) (neighbour g cell p) 0 h ∙ ap wordLevel (getD-take (size g) work (neighbour g cell p) 0 h ∙ ap (λ (x : ℕ). getD work x 0) (sym there))
+  near-level h =
+      at-table (size g) (levelIn (size g) work) (neighbour g cell p) 0 h
+      ∙ ap wordLevel (getD-take (size g) work (neighbour g cell p) 0 h ∙ ap (λ (x : ℕ). getD work x 0) (sym there))
 
-  pub below-is : (r : Bool) → (r ≡ true → (at e m ≡ levelOf k) × ((suc (wordLevel (getD work m 0)) ≡ wordLevel word) × (0 < wordLevel (getD work m 0))))
-      → (r ≡ false → at e m ≡ levelOf k → suc (wordLevel (getD work m 0)) ≡ wordLevel word → 0 < wordLevel (getD work m 0) → ⊥) → r ≡ isBelow g e (levelsIn g work) cell p
+  -- the levels there and of the cell itself
+  abbrev near : ℕ
+  near = getD (levelsIn g work) (neighbour g cell p) 0
+
+  abbrev level : ℕ
+  level = getD (levelsIn g work) cell 0
+
+  pub below-is : (r : Bool)
+      → (r ≡ true → (at e m ≡ levelOf k) × ((suc (wordLevel (getD work m 0)) ≡ wordLevel word) × (0 < wordLevel (getD work m 0))))
+      → (r ≡ false → at e m ≡ levelOf k → suc (wordLevel (getD work m 0)) ≡ wordLevel word → 0 < wordLevel (getD work m 0) → ⊥)
+      → r ≡ isBelow g e (levelsIn g work) cell p
   below-is r t f = same-test r (isBelow g e (levelsIn g work) cell p) forth back
     where
       forth : r ≡ true → isBelow g e (levelsIn g work) cell p ≡ true
@@ -112,19 +145,19 @@ module _ (g : Grid) (e : List ℤ) (len : length e ≡ size g) (work : List ℕ)
           let b = own-level in
           let c = w .1 .0 in
           let s = w .1 .1 in
-          and-true (and-true eq (eq-eqb (suc (getD (levelsIn g work) (neighbour g cell p) 0)) (getD (levelsIn g work) cell 0) (omega arith))) (lt-ltb 0 (getD (levelsIn g work) (neighbour g cell p) 0) (omega arith))
+          and-true (and-true eq (eq-eqb (suc near) level (omega arith))) (lt-ltb 0 near (omega arith))
 
       back : isBelow g e (levelsIn g work) cell p ≡ true → r ≡ true
       back q = ⊎-elim (λ y. y) (λ n. absurd (clash n)) (test r)
         where
-          first : (isEqual g e cell p && eqb (suc (getD (levelsIn g work) (neighbour g cell p) 0)) (getD (levelsIn g work) cell 0)) ≡ true
-          first = and-left (isEqual g e cell p && eqb (suc (getD (levelsIn g work) (neighbour g cell p) 0)) (getD (levelsIn g work) cell 0)) (ltb 0 (getD (levelsIn g work) (neighbour g cell p) 0)) q
+          first : (isEqual g e cell p && eqb (suc near) level) ≡ true
+          first = and-left (isEqual g e cell p && eqb (suc near) level) (ltb 0 near) q
 
           clash : r ≡ false → ⊥
           clash n =
-              let eq = and-left (isEqual g e cell p) (eqb (suc (getD (levelsIn g work) (neighbour g cell p) 0)) (getD (levelsIn g work) cell 0)) first in
-              let less = eqb-true (suc (getD (levelsIn g work) (neighbour g cell p) 0)) (getD (levelsIn g work) cell 0) (and-right (isEqual g e cell p) (eqb (suc (getD (levelsIn g work) (neighbour g cell p) 0)) (getD (levelsIn g work) cell 0)) first) in
-              let pos = ltb-true 0 (getD (levelsIn g work) (neighbour g cell p) 0) (and-right (isEqual g e cell p && eqb (suc (getD (levelsIn g work) (neighbour g cell p) 0)) (getD (levelsIn g work) cell 0)) (ltb 0 (getD (levelsIn g work) (neighbour g cell p) 0)) q) in
+              let eq = and-left (isEqual g e cell p) (eqb (suc near) level) first in
+              let less = eqb-true (suc near) level (and-right (isEqual g e cell p) (eqb (suc near) level) first) in
+              let pos = ltb-true 0 near (and-right (isEqual g e cell p && eqb (suc near) level) (ltb 0 near) q) in
               let a = near-level (equal-on-sheet g e len cell p eq) in
               let b = own-level in
               f n (ap (at e) there ∙ equal-height g e cell p eq ∙ own) (omega arith) (omega arith)
@@ -135,13 +168,15 @@ module _ (g : Grid) (e : List ℤ) (len : length e ≡ size g) (work : List ℕ)
   own-read = at-table (size g) (levelIn (size g) work) cell 0 on ∙ ap wordLevel (getD-take (size g) work cell 0 on)
 
   -- at level 0 it is the word, and a void has code 0
-  pub low-code : (getD work cell 0 ≡ 0 → isData e cell ≡ false) → getD work cell 0 < 256 → getD work cell 0 ≡ directionAt g e (levelsIn g work) cell
+  pub low-code : (getD work cell 0 ≡ 0 → isData e cell ≡ false) → getD work cell 0 < 256
+      → getD work cell 0 ≡ directionAt g e (levelsIn g work) cell
   low-code v h = go (ℕ-discrete (getD work cell 0) 0)
     where
       go : Dec (getD work cell 0 ≡ 0) → getD work cell 0 ≡ directionAt g e (levelsIn g work) cell
       go (yes z) = z ∙ sym (void-code g e (levelsIn g work) cell (v z))
       go (no f) =
-          let zero-level : isLevelZero g e cell ≡ true = L .certified .one-is cell on (own-read ∙ level-one (getD work cell 0) (omega arith) h) in
+          let one = own-read ∙ level-one (getD work cell 0) (omega arith) h in
+          let zero-level : isLevelZero g e cell ≡ true = L .certified .one-is cell on one in
           sym (getD-take (size g) work cell 0 on) ∙ L .coded cell on zero-level ∙ sym (zero-code-any g e cell zero-level (levelsIn g work))
 
   module _ (h : 256 ≤ getD work cell 0) where
@@ -152,7 +187,13 @@ module _ (g : Grid) (e : List ℤ) (len : length e ≡ size g) (work : List ℕ)
     high-data = L .certified .data-only cell on (let a = has-level in omega arith)
 
     not-zero : isLevelZero g e cell ≡ false
-    not-zero = ⊎-elim (λ z. let a = has-level in let b = L .certified .zero-has cell on z in let y : ⊥ = omega arith in absurd y) (λ z. z) (test (isLevelZero g e cell))
+    not-zero = ⊎-elim (λ z. absurd (clash z)) (λ z. z) (test (isLevelZero g e cell))
+      where
+        clash : isLevelZero g e cell ≡ true → ⊥
+        clash z = let a = has-level in let b = L .certified .zero-has cell on z in omega arith
+
+    pub high-within : Inner g (cell / g .cols) (cell % g .cols)
+    high-within = flat-within g e len cell on high-data not-zero
 
     pub high-code : choice (flatSum g e (levelsIn g work) cell) ≡ directionAt g e (levelsIn g work) cell
     unfolding isLevelZero

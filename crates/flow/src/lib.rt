@@ -1,7 +1,8 @@
-// Flow directions (document 01, "Directions"): from any sheet the code of every cell, in linear time, or the first data cell without a level. First each cell of
-// level 0, an outlet or a cell with a drop above 0, gets its code as its word in the work buffer; then `levels` finds the other levels; then one scan looks
-// for a data cell without a level; and only when there is none are codes written. Proved by the certificate of `flow_laws`: the words that `levels`
-// leaves hold the levels of the definition, so the code of a flat cell is the choice among its equal neighbours one level lower.
+// Flow directions (document 01, "Directions"): from any sheet the code of every cell, in linear time, or the first data cell without a level.
+// First each cell of level 0, an outlet or a cell with a drop above 0, gets its code as its word in the work buffer, row by row; then `levels`
+// finds the other levels; then one scan looks for a data cell without a level; and only when there is none are codes written. Proved by the
+// certificate of `flow_laws`: the words that `levels` leaves hold the levels of the definition, so the code of a flat cell is the choice among
+// its equal neighbours one level lower.
 use cells::key_at;
 use grid::Grid;
 ghost use mathlib.Core.Path.{_≡_};
@@ -12,39 +13,140 @@ ghost use lib.ListN.{length, getD};
 ghost use lib.IntN.{ℤ};
 ghost use Rattle.grid.specs.Below.{table as table', firstBelow};
 ghost use Rattle.grid.specs.Sheet.{size, at, isData, codeAt};
+ghost use Rattle.grid.specs.Outlet.{isOutlet};
 ghost use Rattle.grid.specs.Directions.{directionAt, directions, flatSum, firstUnlevelled};
 ghost use Rattle.cells.specs.Keys.{keyOf, levelOf};
-ghost use Rattle.slopes.specs.Steepest.{choices as choices'};
+ghost use Rattle.cells.specs.Steps.{Inner};
+ghost use Rattle.slopes.specs.Steepest.{choices as choices', innerSum};
 ghost use Rattle.flow_laws.specs.Words.{wordLevel, levelsIn, firstWord, Seeded, Levelled};
+ghost use Rattle.flow.specs.Seeding.{WordsTo, SumsIn, BorderIn};
 
-// The word of a cell before the search: its code at level 0, and else 0.
-fn first_word(g: Grid, elevations: &[i16], table: &[u8; 256], cell: usize) -> u32
+// The word of an outlet before the search, its code, and 0 for a void.
+fn outer_word(g: Grid, elevations: &[i16], cell: usize) -> u32
     requires { ⌜ length (now elevations) ≡ size g ⌝ }
     requires { ⌜ size g < 2 ^ 24 ⌝ }
-    requires { ⌜ now table ≡ choices' ⌝ }
     requires { ⌜ cell < size g ⌝ }
+    requires { ⌜ (isData (now elevations) cell ≡ true → isOutlet g (now elevations) cell ≡ true) ⌝ }
     ensures { λ r. ⌜ r ≡ firstWord g (now (elevations .entry)) cell ⌝ }
 {
     if key_at(elevations, cell) == 0 {
         return 0;
     }
-    slopes::first_code(g, elevations, table, cell) as u32
+    cells::outlet_code(g, elevations, cell) as u32
 }
 
-// Puts the first word of every cell into the work buffer.
-fn seed(g: Grid, elevations: &[i16], work: &mut [u32])
+// The word of a cell from its sum: the choice among its largest drops, and 0 for a cell of a flat.
+fn inner_word(g: Grid, elevations: &[i16], table: &[u8; 256], cell: usize, sum: u32) -> u32
     requires { ⌜ length (now elevations) ≡ size g ⌝ }
     requires { ⌜ size g < 2 ^ 24 ⌝ }
-    requires { ⌜ 4 * size g ≤ length (now work) ⌝ }
+    requires { ⌜ cell < size g ⌝ }
+    requires { ⌜ now table ≡ choices' ⌝ }
+    requires { ⌜ sum ≡ innerSum g (now elevations) cell ⌝ }
+    ensures { λ r. ⌜ r ≡ firstWord g (now (elevations .entry)) cell ⌝ }
+{
+    if sum < 256 {
+        return slopes::choose(table, sum as usize) as u32;
+    }
+    outer_word(g, elevations, cell)
+}
+
+// Goes on with words for the cells from `from` to `to`, whose sums stand in their places.
+fn inner_words(
+    g: Grid,
+    elevations: &[i16],
+    table: &[u8; 256],
+    from: usize,
+    to: usize,
+    work: &mut [u32],
+)
+    requires { ⌜ length (now elevations) ≡ size g ⌝ }
+    requires { ⌜ size g < 2 ^ 24 ⌝ }
+    requires { ⌜ size g ≤ length (now work) ⌝ }
+    requires { ⌜ now table ≡ choices' ⌝ }
+    requires { ⌜ (from ≤ to) × (to ≤ size g) ⌝ }
+    requires { ⌜ WordsTo g (now elevations) from (now work) ⌝ }
+    requires { ⌜ SumsIn g (now elevations) from to (now work) ⌝ }
+    ensures { λ r. ⌜ WordsTo g (now (elevations .entry)) to (now (work .exit)) ⌝ }
+{
+    let mut cell = from;
+    while cell < to {
+        work[cell] = inner_word(g, elevations, table, cell, work[cell]);
+        cell += 1;
+    }
+}
+
+// Goes on with words for the cells from `from` to `to`, which are outlets and voids.
+fn outer_words(g: Grid, elevations: &[i16], from: usize, to: usize, work: &mut [u32])
+    requires { ⌜ length (now elevations) ≡ size g ⌝ }
+    requires { ⌜ size g < 2 ^ 24 ⌝ }
+    requires { ⌜ size g ≤ length (now work) ⌝ }
+    requires { ⌜ (from ≤ to) × (to ≤ size g) ⌝ }
+    requires { ⌜ BorderIn g from to ⌝ }
+    requires { ⌜ WordsTo g (now elevations) from (now work) ⌝ }
+    ensures { λ r. ⌜ WordsTo g (now (elevations .entry)) to (now (work .exit)) ⌝ }
+{
+    let mut cell = from;
+    while cell < to {
+        work[cell] = outer_word(g, elevations, cell);
+        cell += 1;
+    }
+}
+
+// Goes on with words for a row within the border, from its second cell to the first of the next row.
+fn seed_row(g: Grid, elevations: &[i16], table: &[u8; 256], row: usize, work: &mut [u32])
+    requires { ⌜ length (now elevations) ≡ size g ⌝ }
+    requires { ⌜ size g < 2 ^ 24 ⌝ }
+    requires { ⌜ size g ≤ length (now work) ⌝ }
+    requires { ⌜ now table ≡ choices' ⌝ }
+    requires { ⌜ (1 ≤ row) × (row + 2 ≤ g .rows) × (3 ≤ g .cols) ⌝ }
+    requires { ⌜ WordsTo g (now elevations) (row * g .cols + 1) (now work) ⌝ }
+    ensures { λ r. ⌜ WordsTo g (now (elevations .entry)) ((row + 1) * g .cols + 1) (now (work .exit)) ⌝ }
+{
+    let cols = g.cols;
+    let from = row * cols + 1;
+    let to = from + (cols - 2);
+    slopes::row_sums(g, elevations, from, to, work);
+    inner_words(g, elevations, table, from, to, work);
+    outer_words(g, elevations, to, to + 2, work);
+}
+
+// The words of a sheet with cells within its border.
+fn seed_rows(g: Grid, elevations: &[i16], work: &mut [u32])
+    requires { ⌜ length (now elevations) ≡ size g ⌝ }
+    requires { ⌜ size g < 2 ^ 24 ⌝ }
+    requires { ⌜ size g ≤ length (now work) ⌝ }
+    requires { ⌜ (3 ≤ g .rows) × (3 ≤ g .cols) ⌝ }
     ensures { λ r. ⌜ Seeded g (now (elevations .entry)) (now (work .exit)) ⌝ }
 {
     let table = slopes::choices();
-    let cells = elevations.len();
-    let mut cell: usize = 0;
-    while cell < cells {
-        work[cell] = first_word(g, elevations, &table, cell);
-        cell += 1;
+    let rows = g.rows;
+    let cols = g.cols;
+    outer_words(g, elevations, 0, cols + 1, work);
+    let mut row: usize = 1;
+    while row + 1 < rows {
+        seed_row(g, elevations, &table, row, work);
+        row += 1;
     }
+    outer_words(g, elevations, row * cols + 1, elevations.len(), work);
+}
+
+// Puts the first word of every cell into the work buffer, row by row: on the border, and on a sheet that is all border, there are only outlets
+// and voids.
+fn seed(g: Grid, elevations: &[i16], work: &mut [u32])
+    requires { ⌜ length (now elevations) ≡ size g ⌝ }
+    requires { ⌜ size g < 2 ^ 24 ⌝ }
+    requires { ⌜ size g ≤ length (now work) ⌝ }
+    ensures { λ r. ⌜ Seeded g (now (elevations .entry)) (now (work .exit)) ⌝ }
+{
+    if g.rows < 3 {
+        outer_words(g, elevations, 0, elevations.len(), work);
+        return;
+    }
+    if g.cols < 3 {
+        outer_words(g, elevations, 0, elevations.len(), work);
+        return;
+    }
+    seed_rows(g, elevations, work);
 }
 
 // Whether a cell holds data and has no level.
@@ -61,7 +163,8 @@ fn lacks_level(elevations: &[i16], work: &[u32], cell: usize) -> bool
 // The first data cell without a level, or the number of cells.
 fn first_without(elevations: &[i16], work: &[u32]) -> usize
     requires { ⌜ length (now elevations) ≤ length (now work) ⌝ }
-    ensures { λ r. ⌜ r ≡ firstBelow (length (now (elevations .entry))) (λ c. isData (now (elevations .entry)) c && eqb (getD (now (work .entry)) c 0) 0) ⌝ }
+    ensures { λ r. ⌜ r ≡ firstBelow (length (now (elevations .entry)))
+        (λ c. isData (now (elevations .entry)) c && eqb (getD (now (work .entry)) c 0) 0) ⌝ }
 {
     let cells = elevations.len();
     let mut cell: usize = 0;
@@ -74,25 +177,41 @@ fn first_without(elevations: &[i16], work: &[u32]) -> usize
     cells
 }
 
-// Whether the cell `m` has the elevation of the key `k` and the level below that of `word`.
-fn is_below(elevations: &[i16], work: &[u32], k: u32, word: u32, m: usize) -> bool
+// The lowest word of the level below that of `word`.
+fn lowest_below(word: u32) -> u32
+    requires { ⌜ 256 ≤ word ⌝ }
+    ensures { λ r. ⌜ (word ≡ 256 → r ≡ 1) ⌝ }
+    ensures { λ r. ⌜ (256 < word → r + 1 ≡ word) ⌝ }
+{
+    if word == 256 {
+        return 1;
+    }
+    word - 1
+}
+
+// Whether the cell `m` has the elevation of the key `k` and the level below that of `word`, whose lowest word is `low`. Both are read
+// before either is tested, so that the compiler can join the tests.
+fn is_below(elevations: &[i16], work: &[u32], k: u32, low: u32, word: u32, m: usize) -> bool
     requires { ⌜ length (now elevations) ≤ length (now work) ⌝ }
+    requires { ⌜ m < length (now elevations) ⌝ }
     requires { ⌜ 0 < k ⌝ }
     requires { ⌜ 256 ≤ word ⌝ }
-    ensures { λ r. ⌜ (r ≡ true → (at (now (elevations .entry)) m ≡ levelOf k) × ((suc (wordLevel (getD (now (work .entry)) m 0)) ≡ wordLevel word) × (0 < wordLevel (getD (now (work .entry)) m 0)))) ⌝ }
-    ensures { λ r. ⌜ (r ≡ false → at (now (elevations .entry)) m ≡ levelOf k → suc (wordLevel (getD (now (work .entry)) m 0)) ≡ wordLevel word → 0 < wordLevel (getD (now (work .entry)) m 0) → ⊥) ⌝ }
+    requires { ⌜ (word ≡ 256 → low ≡ 1) ⌝ }
+    requires { ⌜ (256 < word → low + 1 ≡ word) ⌝ }
+    ensures { λ r. ⌜ (r ≡ true → (at (now (elevations .entry)) m ≡ levelOf k)
+        × ((suc (wordLevel (getD (now (work .entry)) m 0)) ≡ wordLevel word) × (0 < wordLevel (getD (now (work .entry)) m 0)))) ⌝ }
+    ensures { λ r. ⌜ (r ≡ false → at (now (elevations .entry)) m ≡ levelOf k
+        → suc (wordLevel (getD (now (work .entry)) m 0)) ≡ wordLevel word → 0 < wordLevel (getD (now (work .entry)) m 0) → ⊥) ⌝ }
 {
-    if key_at(elevations, m) != k {
-        return false;
-    }
+    let own = cells::key(elevations[m]);
     let near = work[m];
-    if near == 0 {
+    if own != k {
         return false;
     }
-    if word == 256 {
-        return near < 256;
+    if near < low {
+        return false;
     }
-    near == word - 1
+    near < word
 }
 
 // The sum with the code of the position `p`, if it is a member.
@@ -114,22 +233,20 @@ fn flat_sum(g: Grid, elevations: &[i16], work: &[u32], cell: usize, word: u32) -
     requires { ⌜ size g < 2 ^ 24 ⌝ }
     requires { ⌜ size g ≤ length (now work) ⌝ }
     requires { ⌜ cell < size g ⌝ }
+    requires { ⌜ Inner g (cell / g .cols) (cell % g .cols) ⌝ }
     requires { ⌜ isData (now elevations) cell ≡ true ⌝ }
     requires { ⌜ word ≡ getD (now work) cell 0 ⌝ }
     requires { ⌜ 256 ≤ word ⌝ }
     ensures { λ r. ⌜ r ≡ flatSum g (now (elevations .entry)) (levelsIn g (now (work .entry))) cell ⌝ }
     ensures { λ r. ⌜ r < 256 ⌝ }
 {
-    let k = key_at(elevations, cell);
-    let cols = g.cols;
-    let row = cell / cols;
-    let col = cell % cols;
-    let inner = cells::is_inner(g, row, col);
+    let k = cells::key(elevations[cell]);
+    let low = lowest_below(word);
     let mut sum: usize = 0;
     let mut p: usize = 0;
     while p < 8 {
-        let m = cells::near(g, cell, row, col, inner, p);
-        sum = with_code(sum, p, is_below(elevations, work, k, word, m));
+        let m = cells::beside(g, cell, p);
+        sum = with_code(sum, p, is_below(elevations, work, k, low, word, m));
         p += 1;
     }
     sum

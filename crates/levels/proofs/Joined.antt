@@ -3,7 +3,7 @@ use mathlib.Core.Path.{_≡_, refl, sym, _∙_, ap, subst}
 use mathlib.Core.Bool.{Bool, true, false, cond}
 use mathlib.Core.Logic.{_⊎_, ⊎-elim}
 use mathlib.Core.List.{List, []}
-use Prim.Native.Nat.{ℕ, zero, suc, _+_, _-_, _≤_, _<_}
+use Prim.Native.Nat.{ℕ, zero, suc, _+_, _-_, _/_, _%_, _≤_, _<_}
 use native.Mathlib.Omega.{arith}
 use lib.ListN.{length, getD, take, set}
 use lib.Seq.{getD-take}
@@ -12,13 +12,16 @@ use Rattle.grid.specs.declared.Grid.{Grid}
 use Rattle.grid.specs.Sheet.{size, at, isData, neighbour}
 use Rattle.grid.specs.Directions.{isEqual, isLevelZero, directionAt}
 use Rattle.grid_laws.proofs.Tests.{test, true-false, cond-true, cond-false}
+use Rattle.cells.specs.Steps.{Inner}
 use Rattle.flow_laws.specs.Search.{Equal, Search}
 use Rattle.flow_laws.specs.Words.{wordLevel, levelIn, queueIn, firstWord, Seeded, Searching, Joining}
 use Rattle.flow_laws.proofs.Search.{last?, looked, search-none}
 use Rattle.flow_laws.proofs.Agree.{equal-data}
 use Rattle.flow_laws.proofs.Equals.{equal-on, equal-back}
 use Rattle.flow_laws.proofs.Leads.{zero-code-range}
-use Rattle.flow_laws.proofs.Words.{level-none, level-one, level-more, word-some, word-other, level-here, queue-first, queue-last, marked, searching-room}
+use Rattle.flow_laws.proofs.Words.{level-none, level-one, level-more, level-here, word-some, word-other}
+use Rattle.flow_laws.proofs.Words.{queue-first, queue-last, marked, searching-room}
+use Rattle.levels.proofs.Within.{other-within}
 
 -- before the first cell
 module _ (g : Grid) (e : List ℤ) (half : ℕ) (work : List ℕ) (S : Seeded g e work) where
@@ -57,11 +60,17 @@ module _ (g : Grid) (e : List ℤ) (half : ℕ) (work : List ℕ) (S : Seeded g 
         ahead = λ c h k. low c k;
       }
 
-module _ (g : Grid) (e : List ℤ) (len : length e ≡ size g) (half : ℕ) (work : List ℕ) (cell tail : ℕ) (on : cell < size g) (J : Joining g e half work cell tail) where
-  passed : ((d : ℕ) → Equal g e d cell → levelIn (size g) work d ≡ 1 → (0 < levelIn (size g) work cell) × (levelIn (size g) work cell ≤ 2)) → Joining g e half work (cell + 1) tail
+module _ (g : Grid) (e : List ℤ) (len : length e ≡ size g) (half : ℕ) (work : List ℕ) (cell tail : ℕ) (on : cell < size g)
+    (J : Joining g e half work cell tail) where
+  passed : ((d : ℕ) → Equal g e d cell → levelIn (size g) work d ≡ 1 → (0 < levelIn (size g) work cell) × (levelIn (size g) work cell ≤ 2))
+      → Joining g e half work (cell + 1) tail
   passed all =
       record {
-        searching = record { search = looked (equal-back g e len) (equal-on g e len) (J .searching .search) all; coded = J .searching .coded };
+        searching =
+            record {
+              search = looked (equal-back g e len) (equal-on g e len) (J .searching .search) all;
+              coded = J .searching .coded;
+            };
         twos = J .twos;
         ahead = λ c h k. J .ahead c (omega arith) k;
       }
@@ -69,25 +78,45 @@ module _ (g : Grid) (e : List ℤ) (len : length e ≡ size g) (half : ℕ) (wor
   -- the cell has a level: 0
   pub joining-has : (getD work cell 0 ≡ 0 → ⊥) → Joining g e half work (cell + 1) tail
   joining-has f =
-      passed (λ d b q. let l = J .ahead cell (omega arith) on in let w : 0 < getD work cell 0 = omega (arith, f) in (word-some _ (rw (getD-take (size g) work cell 0 on) w), omega arith))
+      passed
+      (λ d b q.
+      let l = J .ahead cell (omega arith) on in
+      let w : 0 < getD work cell 0 = omega (arith, f) in
+      (word-some _ (rw (getD-take (size g) work cell 0 on) w), omega arith))
 
   pub joining-void : isData e cell ≡ false → Joining g e half work (cell + 1) tail
-  joining-void v = passed (λ d b q. true-false (subst (λ (x : ℕ). isData e x ≡ true) (b .there) (equal-data g e d (b .position) (b .equal))) v)
+  joining-void v =
+      passed (λ d b q. true-false (subst (λ (x : ℕ). isData e x ≡ true) (b .there) (equal-data g e d (b .position) (b .equal))) v)
 
   -- it lies beside no equal cell of level 0
-  pub joining-alone : ((p : ℕ) → p < 8 → isEqual g e cell p ≡ true → levelIn (size g) work (neighbour g cell p) ≡ 1 → ⊥) → Joining g e half work (cell + 1) tail
-  joining-alone f = passed (λ d b q. let k = equal-back g e len d cell b in absurd (f (k .position) (k .eight) (k .equal) (ap (levelIn (size g) work) (k .there) ∙ q)))
+  pub joining-alone : ((p : ℕ) → p < 8 → isEqual g e cell p ≡ true → levelIn (size g) work (neighbour g cell p) ≡ 1 → ⊥)
+      → Joining g e half work (cell + 1) tail
+  joining-alone f =
+      passed
+      (λ d b q.
+      let k = equal-back g e len d cell b in
+      absurd (f (k .position) (k .eight) (k .equal) (ap (levelIn (size g) work) (k .there) ∙ q)))
+
+  -- a data cell without a word lies within the border
+  pub joining-within : getD work cell 0 ≡ 0 → isData e cell ≡ true → Inner g (cell / g .cols) (cell % g .cols)
+  joining-within none d =
+      let z : levelIn (size g) work cell ≡ 0 = level-none _ (getD-take (size g) work cell 0 on ∙ none) in
+      other-within g e len cell on d half work (J .searching) (λ one. omega arith)
 
   pub joining-room : getD work cell 0 ≡ 0 → tail < size g
   joining-room z = searching-room g e len half work (J .searching) cell on z
 
   -- it lies beside one, at p
-  module _ (hn : size g ≤ half) (hl : half + size g ≤ length work) (none : getD work cell 0 ≡ 0) (d : isData e cell ≡ true) (p : ℕ) (hp : p < 8) (same : isEqual g e cell p ≡ true)
-      (one : levelIn (size g) work (neighbour g cell p) ≡ 1) where
+  module _ (hn : size g ≤ half) (hl : half + size g ≤ length work) (none : getD work cell 0 ≡ 0) (d : isData e cell ≡ true) (p : ℕ)
+      (hp : p < 8) (same : isEqual g e cell p ≡ true) (one : levelIn (size g) work (neighbour g cell p) ≡ 1) where
+    -- the work buffer after it
+    abbrev after : List ℕ
+    after = set (set work cell 256) (half + tail) cell
+
     two : wordLevel 256 ≡ 2
     two = level-more 256 (omega arith)
 
-    searching′ : Searching g e half (set (set work cell 256) (half + tail) cell) cell 0 (tail + 1)
+    searching′ : Searching g e half after cell 0 (tail + 1)
     searching′ =
         marked g e len half work (J .searching) hn hl cell (neighbour g cell p) 256 on none
         (record { from-data = d; position = p; eight = hp; there = refl; equal = same })
@@ -95,36 +124,40 @@ module _ (g : Grid) (e : List ℤ) (len : length e ≡ size g) (half : ℕ) (wor
         (λ j h. let q = J .twos j h in omega arith)
         (λ i h k. let q = J .twos i k in omega arith)
 
-    here : levelIn (size g) (set (set work cell 256) (half + tail) cell) cell ≡ 2
+    here : levelIn (size g) after cell ≡ 2
     here = level-here (size g) half tail cell 256 work hn hl on (joining-room none) ∙ two
 
-    other : (y : ℕ) → (y ≡ cell → ⊥) → levelIn (size g) (set (set work cell 256) (half + tail) cell) y ≡ levelIn (size g) work y
+    other : (y : ℕ) → (y ≡ cell → ⊥) → levelIn (size g) after y ≡ levelIn (size g) work y
     other y f = ap wordLevel (word-other (size g) half tail cell 256 work hn hl on (joining-room none) y f)
 
-    twos′ : (i : ℕ) → i < tail + 1 → levelIn (size g) (set (set work cell 256) (half + tail) cell) (queueIn half (set (set work cell 256) (half + tail) cell) i) ≡ 2
+    twos′ : (i : ℕ) → i < tail + 1 → levelIn (size g) after (queueIn half after i) ≡ 2
     twos′ i h = ⊎-elim before last (last? tail i h)
       where
-        before : i < tail → levelIn (size g) (set (set work cell 256) (half + tail) cell) (queueIn half (set (set work cell 256) (half + tail) cell) i) ≡ 2
+        before : i < tail → levelIn (size g) after (queueIn half after i) ≡ 2
         before l =
             let q = queue-first (size g) half tail cell 256 work hn hl on (joining-room none) i l in
             let t = J .twos i l in
             let z : levelIn (size g) work cell ≡ 0 = level-none _ (getD-take (size g) work cell 0 on ∙ none) in
-            ap (levelIn (size g) (set (set work cell 256) (half + tail) cell)) q ∙ other (queueIn half work i) (λ r. let a = ap (levelIn (size g) work) r in omega arith) ∙ t
+            ap (levelIn (size g) after) q
+            ∙ other (queueIn half work i) (λ r. let a = ap (levelIn (size g) work) r in omega arith)
+            ∙ t
 
-        last : i ≡ tail → levelIn (size g) (set (set work cell 256) (half + tail) cell) (queueIn half (set (set work cell 256) (half + tail) cell) i) ≡ 2
-        last q = rw q (ap (levelIn (size g) (set (set work cell 256) (half + tail) cell)) (queue-last (size g) half tail cell 256 work hn hl on (joining-room none)) ∙ here)
+        last : i ≡ tail → levelIn (size g) after (queueIn half after i) ≡ 2
+        last q = rw q (ap (levelIn (size g) after) (queue-last (size g) half tail cell 256 work hn hl on (joining-room none)) ∙ here)
 
-    pub joining-marked : Joining g e half (set (set work cell 256) (half + tail) cell) (cell + 1) (tail + 1)
+    pub joining-marked : Joining g e half after (cell + 1) (tail + 1)
     joining-marked =
         record {
           searching =
               record {
-                search = looked (equal-back g e len) (equal-on g e len) (searching′ .search) (λ x b q. let h = here in (omega arith, omega arith));
+                search =
+                    looked (equal-back g e len) (equal-on g e len) (searching′ .search)
+                    (λ x b q. let h = here in (omega arith, omega arith));
                 coded = searching′ .coded;
               };
           twos = twos′;
           ahead = λ c h k. let q = other c (λ r. omega arith) in let a = J .ahead c (omega arith) k in omega arith;
         }
 
-    pub joining-next : {work′ : List ℕ} {r : ℕ} → r ≡ tail + 1 → work′ ≡ set (set work cell 256) (half + tail) cell → Joining g e half work′ (cell + 1) r
+    pub joining-next : {work′ : List ℕ} {r : ℕ} → r ≡ tail + 1 → work′ ≡ after → Joining g e half work′ (cell + 1) r
     joining-next q s = rw (q, s) joining-marked

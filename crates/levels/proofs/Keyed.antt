@@ -1,27 +1,36 @@
 -- What a key that was read says of its cell, and what the word of a neighbour says.
-use mathlib.Core.Path.{_≡_, sym, _∙_, ap, subst}
-use mathlib.Core.Bool.{true, false, not}
+use mathlib.Core.Path.{_≡_, refl, sym, _∙_, ap, subst}
+use mathlib.Core.Bool.{Bool, true, false, cond, not}
 use mathlib.Core.Logic.{_⊎_, ⊎-elim}
 use mathlib.Core.List.{List}
-use Prim.Native.Nat.{ℕ, _≤_, _<_}
+use Prim.Native.Nat.{ℕ, _+_, _≤_, _<_}
 use native.Mathlib.Omega.{arith}
 use native.Mathlib.Decide.{decLt}
-use lib.ListN.{length, getD, List·getD-eq-default}
+use lib.ListN.{length, getD, take}
 use lib.Seq.{getD-take}
-use lib.IntN.{ℤ}
+use lib.IntN.{ℤ, pos}
 use lib.Signed.{_≤ℤ_}
+use borrow.Author.Count.{below-more}
+use mir.Syntax.{w16}
+use mir.Val.{SFits, toZ, ofZ}
+use mir.Facts.{toZ-ofZ}
 use Rattle.grid.specs.declared.Grid.{Grid}
 use Rattle.grid.specs.Sheet.{size, void, at, isData, eqZ, neighbour}
 use Rattle.grid.specs.Directions.{isEqual}
 use Rattle.grid_laws.proofs.Tests.{test, true-false, not-of-false}
 use Rattle.grid_laws.proofs.Order.{eqZ-eq}
-use Rattle.grid_laws.proofs.Cells.{on-sheet, off-no-data, void-no-data}
+use Rattle.grid_laws.proofs.Cells.{on-sheet, void-no-data}
 use Rattle.cells.specs.Keys.{keyOf, levelOf}
-use Rattle.cells.proofs.Keys.{level-key, key-level, key-void, level-void}
+use Rattle.cells.proofs.Keys.{Known, known-read, level-key, key-level, key-void, level-void}
 use Rattle.flow_laws.specs.Words.{levelIn, Room}
 use Rattle.flow_laws.proofs.Equals.{is-equal, equal-height}
 use Rattle.flow_laws.proofs.Agree.{equal-on-sheet}
 use Rattle.flow_laws.proofs.Words.{level-one, word-one}
+
+-- the key of an elevation that was read from its place
+pub key-read : (e : List ℤ) (c r : ℕ) → c < length e → SFits w16 (getD e c (pos 0)) → Known r (toZ w16 (ofZ w16 (getD e c (pos 0))))
+    → Known r (at e c)
+key-read e c r h f K = known-read e c r h (subst (Known r) (toZ-ofZ f) K)
 
 -- another key, another elevation
 pub differs : {z : ℤ} (k r : ℕ) → r ≡ keyOf z → (r ≡ k → ⊥) → z ≡ levelOf k → ⊥
@@ -30,14 +39,7 @@ differs k r q f h = f (q ∙ ap keyOf h ∙ key-level k)
 pub agrees : {z : ℤ} (k r : ℕ) → r ≡ keyOf z → void ≤ℤ z → r ≡ k → z ≡ levelOf k
 agrees {z} k r q v h = sym (level-key z v) ∙ ap levelOf (sym q ∙ h)
 
--- a cell with a key above 0 lies on the sheet, and is a data cell
-pub key-below : (e : List ℤ) (m k r : ℕ) → r ≡ keyOf (at e m) → r ≡ k → 0 < k → m < length e
-key-below e m k r q h p = go (decLt m (length e))
-  where
-    go : Dec (m < length e) → m < length e
-    go (yes l) = l
-    go (no f) = let z : r ≡ 0 = q ∙ ap keyOf (List·getD-eq-default e void (omega arith)) ∙ key-void in let y : ⊥ = omega arith in absurd y
-
+-- a cell with a key above 0 is a data cell
 pub height-data : (e : List ℤ) (c k : ℕ) → at e c ≡ levelOf k → 0 < k → isData e c ≡ true
 unfolding isData
 height-data e c k h p = ⊎-elim (λ t. absurd (zero t)) not-of-false (test (eqZ (at e c) void))
@@ -45,39 +47,64 @@ height-data e c k h p = ⊎-elim (λ t. absurd (zero t)) not-of-false (test (eqZ
     zero : eqZ (at e c) void ≡ true → ⊥
     zero t = let q : k ≡ 0 = sym (key-level k) ∙ ap keyOf (sym h ∙ eqZ-eq (at e c) void t) ∙ key-void in omega arith
 
--- off the sheet is no elevation of a key above 0
-pub off-differs : (e : List ℤ) (m k : ℕ) → length e ≤ m → 0 < k → at e m ≡ levelOf k → ⊥
-off-differs e m k h p q = true-false (height-data e m k q p) (off-no-data e m h)
+-- a key of 0 is the void's
+pub zero-no-data : (e : List ℤ) (c r : ℕ) → r ≡ keyOf (at e c) → void ≤ℤ at e c → r ≡ 0 → isData e c ≡ false
+zero-no-data e c r q v z = void-no-data e c (sym (level-key (at e c) v) ∙ ap levelOf (sym q ∙ z) ∙ level-void)
 
 pub data-positive : (e : List ℤ) (c r : ℕ) → r ≡ keyOf (at e c) → void ≤ℤ at e c → isData e c ≡ true → 0 < r
 data-positive e c r q v d = go (decLt 0 r)
   where
     go : Dec (0 < r) → 0 < r
     go (yes h) = h
-    go (no f) = let z : r ≡ 0 = omega arith in true-false d (void-no-data e c (sym (level-key (at e c) v) ∙ ap levelOf (sym q ∙ z) ∙ level-void))
-
--- a key of 0 is the void's
-pub zero-no-data : (e : List ℤ) (c r : ℕ) → r ≡ keyOf (at e c) → void ≤ℤ at e c → r ≡ 0 → isData e c ≡ false
-zero-no-data e c r q v z = void-no-data e c (sym (level-key (at e c) v) ∙ ap levelOf (sym q ∙ z) ∙ level-void)
+    go (no f) = true-false d (zero-no-data e c r q v (omega arith))
 
 pub room-over : (e : List ℤ) (n tail : ℕ) (work : List ℕ) → length e ≡ n → Room n work tail → Room (length e) work tail
 room-over e n tail work q R m h z = let r = R m (omega arith) z in omega arith
 
 -- ---- an equal neighbour of level 0
-module _ (g : Grid) (e : List ℤ) (len : length e ≡ size g) (work : List ℕ) (cell k : ℕ) (own : at e cell ≡ levelOf k) (some : 0 < k) (p m : ℕ) (there : m ≡ neighbour g cell p) where
-  pub zero-found : (at e m ≡ levelOf k) × ((0 < getD work m 0) × (getD work m 0 < 256)) → (isEqual g e cell p ≡ true) × (levelIn (size g) work (neighbour g cell p) ≡ 1)
+-- of the positions before p that have one, `found` is one, and there is none where it is 8
+abbrev pub Looked : Grid → List ℤ → List ℕ → (cell p found : ℕ) → Type 0
+Looked g e work cell p found =
+    (found < 8 → (isEqual g e cell found ≡ true) × (levelIn (size g) work (neighbour g cell found) ≡ 1))
+    × (8 ≤ found → (q : ℕ) → q < p → isEqual g e cell q ≡ true → levelIn (size g) work (neighbour g cell q) ≡ 1 → ⊥)
+
+pub looked-none : (g : Grid) (e : List ℤ) (work : List ℕ) (cell : ℕ) → Looked g e work cell 0 8
+looked-none g e work cell = ((λ h. let z : ⊥ = omega arith in absurd z), λ h q l. let z : ⊥ = omega arith in absurd z)
+
+module _ (g : Grid) (e : List ℤ) (len : length e ≡ size g) (work : List ℕ) (cell k : ℕ) (own : at e cell ≡ levelOf k) (some : 0 < k)
+    (p m : ℕ) (there : m ≡ neighbour g cell p) where
+  zero-found : (at e m ≡ levelOf k) × ((0 < getD work m 0) × (getD work m 0 < 256))
+      → (isEqual g e cell p ≡ true) × (levelIn (size g) work (neighbour g cell p) ≡ 1)
   zero-found (h, (a, b)) =
       let d : isData e m ≡ true = height-data e m k h some in
-      let on = on-sheet g e len m d in
-      let l : levelIn (size g) work m ≡ 1 = level-one _ (rw (getD-take (size g) work m 0 on) a) (rw (getD-take (size g) work m 0 on) b) in
-      (is-equal g e cell p (subst (λ (x : ℕ). isData e x ≡ true) there d) (subst (λ (x : ℕ). at e x ≡ at e cell) there (h ∙ sym own)), subst (λ (x : ℕ). levelIn (size g) work x ≡ 1) there l)
+      let w = getD-take (size g) work m 0 (on-sheet g e len m d) in
+      let l : levelIn (size g) work m ≡ 1 = level-one _ (rw w a) (rw w b) in
+      let d′ = subst (λ (x : ℕ). isData e x ≡ true) there d in
+      let same = subst (λ (x : ℕ). at e x ≡ at e cell) there (h ∙ sym own) in
+      (is-equal g e cell p d′ same, subst (λ (x : ℕ). levelIn (size g) work x ≡ 1) there l)
 
-  pub zero-missing : (at e m ≡ levelOf k → 0 < getD work m 0 → 256 ≤ getD work m 0) → isEqual g e cell p ≡ true → levelIn (size g) work (neighbour g cell p) ≡ 1 → ⊥
+  zero-missing : (at e m ≡ levelOf k → 0 < getD work m 0 → 256 ≤ getD work m 0) → isEqual g e cell p ≡ true
+      → levelIn (size g) work (neighbour g cell p) ≡ 1 → ⊥
   zero-missing f t l =
       let on = equal-on-sheet g e len cell p t in
       let w = word-one _ l in
-      let q : getD work m 0 ≡ getD (lib.ListN.take (size g) work) (neighbour g cell p) 0 = ap (λ (x : ℕ). getD work x 0) there ∙ sym (getD-take (size g) work (neighbour g cell p) 0 on) in
+      let q : getD work m 0 ≡ getD (take (size g) work) (neighbour g cell p) 0 =
+      ap (λ (x : ℕ). getD work x 0) there ∙ sym (getD-take (size g) work (neighbour g cell p) 0 on) in
       let a = w .0 in
       let b = w .1 in
       let h = f (ap (at e) there ∙ equal-height g e cell p t ∙ own) (omega arith) in
       omega arith
+
+  -- one position more: r says whether the neighbour there is one
+  pub looked-more : (found next : ℕ) (r : Bool) → p < 8 → Looked g e work cell p found
+      → (r ≡ true → (at e m ≡ levelOf k) × ((0 < getD work m 0) × (getD work m 0 < 256)))
+      → (r ≡ false → at e m ≡ levelOf k → 0 < getD work m 0 → 256 ≤ getD work m 0)
+      → next ≡ cond r p found → Looked g e work cell (p + 1) next
+  looked-more found next true hp L t f q = rw q ((λ h. zero-found (t refl)), λ h. let z : ⊥ = omega arith in absurd z)
+  looked-more found next false hp L t f q =
+      rw q (
+        L .0,
+        λ h. below-more
+            (λ x. isEqual g e cell x ≡ true → levelIn (size g) work (neighbour g cell x) ≡ 1 → ⊥)
+            p (L .1 h) (zero-missing (f refl)),
+      )

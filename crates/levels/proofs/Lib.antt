@@ -1,6 +1,8 @@
 -- Keyed      what a key that was read says of its cell
+-- Within     a data cell that is not at level 0 lies within the border
 -- Spreading  the look at the neighbours of the queue's first
 -- Joined     the look for cells of level 1
 pub mod Keyed
+pub mod Within
 pub mod Spreading
 pub mod Joined

@@ -3,7 +3,7 @@ use mathlib.Core.Path.{_≡_, refl, sym, _∙_, ap, subst}
 use mathlib.Core.Bool.{Bool, true}
 use mathlib.Core.Logic.{_⊎_, inl, inr, ⊎-elim}
 use mathlib.Core.List.{List}
-use Prim.Native.Nat.{ℕ, suc, _+_, _-_, _≤_, _<_}
+use Prim.Native.Nat.{ℕ, suc, _+_, _-_, _/_, _%_, _≤_, _<_}
 use native.Mathlib.Omega.{arith}
 use lib.ListN.{length, getD, take, set}
 use lib.Seq.{getD-take}
@@ -13,13 +13,16 @@ use Rattle.grid.specs.Sheet.{size, void, at, isData, eqZ, neighbour}
 use Rattle.grid.specs.Directions.{isEqual}
 use Rattle.grid_laws.proofs.Cells.{on-sheet}
 use Rattle.cells.specs.Keys.{levelOf}
+use Rattle.cells.specs.Steps.{Inner}
 use Rattle.flow_laws.specs.Search.{Equal, Search}
 use Rattle.flow_laws.specs.Words.{wordLevel, levelIn, queueIn, Searching}
 use Rattle.flow_laws.proofs.Search.{last?, popped}
 use Rattle.flow_laws.proofs.Equals.{is-equal, equal-height, equal-on, equal-back}
 use Rattle.flow_laws.proofs.Agree.{equal-on-sheet}
-use Rattle.flow_laws.proofs.Words.{level-none, level-up, word-more, word-some, word-other, marked, searching-room}
+use Rattle.flow_laws.proofs.Words.{level-none, level-up, level-here, word-more, word-some, word-other}
+use Rattle.flow_laws.proofs.Words.{queue-first, marked, searching-room}
 use Rattle.levels.specs.Touched.{Touched}
+use Rattle.levels.proofs.Within.{other-within}
 
 -- cells of one elevation are data or void together
 pub alike-data : (e : List ℤ) (c d : ℕ) → at e d ≡ at e c → isData e c ≡ true → isData e d ≡ true
@@ -42,7 +45,15 @@ module _ (g : Grid) (e : List ℤ) (len : length e ≡ size g) (half : ℕ) (wor
   pub first-data : Searching g e half work (size g) head tail → head < tail → isData e (getD work (half + head) 0) ≡ true
   first-data S h = let q = S .search .queued head h in S .search .from-lower (getD work (half + head) 0) (q .0) (q .1) .1 .from-data
 
-  pub spreading-none : Searching g e half work (size g) head tail → head < tail → Spreading g e half work head tail (getD work (half + head) 0) (getD work (getD work (half + head) 0) 0 + 1) 0
+  pub first-within : Searching g e half work (size g) head tail → head < tail
+      → Inner g (getD work (half + head) 0 / g .cols) (getD work (half + head) 0 % g .cols)
+  first-within S h =
+      let q = S .search .queued head h in
+      let high = q .1 in
+      other-within g e len (getD work (half + head) 0) (q .0) (first-data S h) half work S (λ one. omega arith)
+
+  pub spreading-none : Searching g e half work (size g) head tail → head < tail
+      → Spreading g e half work head tail (getD work (half + head) 0) (getD work (getD work (half + head) 0) 0 + 1) 0
   spreading-none S h =
       record {
         searching = S;
@@ -62,7 +73,8 @@ module _ (g : Grid) (e : List ℤ) (len : length e ≡ size g) (half : ℕ) (wor
     x-data : isData e x ≡ true
     x-data = P .searching .search .from-lower x x-on x-high .1 .from-data
 
-    pub spreading-passed : (at e (neighbour g x p) ≡ at e x → 0 < getD work (neighbour g x p) 0) → Spreading g e half work head tail x word (p + 1)
+    pub spreading-passed : (at e (neighbour g x p) ≡ at e x → 0 < getD work (neighbour g x p) 0)
+        → Spreading g e half work head tail x word (p + 1)
     spreading-passed f =
         record {
           searching = P .searching;
@@ -73,9 +85,16 @@ module _ (g : Grid) (e : List ℤ) (len : length e ≡ size g) (half : ℕ) (wor
         }
       where
         here : isEqual g e x p ≡ true → 0 < levelIn (size g) work (neighbour g x p)
-        here t = word-some _ (rw (sym (getD-take (size g) work (neighbour g x p) 0 (equal-on-sheet g e len x p t))) at (f (equal-height g e x p t)))
+        here t =
+            let on = equal-on-sheet g e len x p t in
+            word-some _ (rw (sym (getD-take (size g) work (neighbour g x p) 0 on)) at (f (equal-height g e x p t)))
 
-    module _ (hn : size g ≤ half) (hl : half + size g ≤ length work) (hp : p < 8) (same : at e (neighbour g x p) ≡ at e x) (none : getD work (neighbour g x p) 0 ≡ 0) where
+    module _ (hn : size g ≤ half) (hl : half + size g ≤ length work) (hp : p < 8) (same : at e (neighbour g x p) ≡ at e x)
+        (none : getD work (neighbour g x p) 0 ≡ 0) where
+      -- the work buffer after it
+      abbrev after : List ℕ
+      after = set (set work (neighbour g x p) word) (half + tail) (neighbour g x p)
+
       m-data : isData e (neighbour g x p) ≡ true
       m-data = alike-data e x (neighbour g x p) same x-data
 
@@ -86,18 +105,25 @@ module _ (g : Grid) (e : List ℤ) (len : length e ≡ size g) (half : ℕ) (wor
       m-room = searching-room g e len half work (P .searching) (neighbour g x p) m-on none
 
       beside : Equal g e (neighbour g x p) x
-      beside = equal-back g e len x (neighbour g x p) (record { from-data = x-data; position = p; eight = hp; there = refl; equal = is-equal g e x p m-data same })
+      beside =
+          equal-back g e len x (neighbour g x p)
+          (record { from-data = x-data; position = p; eight = hp; there = refl; equal = is-equal g e x p m-data same })
 
       up : wordLevel word ≡ suc (levelIn (size g) work x)
-      up = let w = word-more (getD (take (size g) work) x 0) x-high in ap wordLevel (sym (P .high)) ∙ level-up (getD (take (size g) work) x 0) (w .0)
+      up =
+          let w = word-more (getD (take (size g) work) x 0) x-high in
+          ap wordLevel (sym (P .high)) ∙ level-up (getD (take (size g) work) x 0) (w .0)
 
-      other : (y : ℕ) → (y ≡ neighbour g x p → ⊥) → getD (take (size g) (set (set work (neighbour g x p) word) (half + tail) (neighbour g x p))) y 0 ≡ getD (take (size g) work) y 0
+      other : (y : ℕ) → (y ≡ neighbour g x p → ⊥) → getD (take (size g) after) y 0 ≡ getD (take (size g) work) y 0
       other y d = word-other (size g) half tail (neighbour g x p) word work hn hl m-on m-room y d
 
       no-level : levelIn (size g) work (neighbour g x p) ≡ 0
       no-level = level-none _ (getD-take (size g) work (neighbour g x p) 0 m-on ∙ none)
 
-      pub spreading-marked : Spreading g e half (set (set work (neighbour g x p) word) (half + tail) (neighbour g x p)) head (tail + 1) x word (p + 1)
+      different : (y : ℕ) → 0 < levelIn (size g) work y → y ≡ neighbour g x p → ⊥
+      different y h q = let b = no-level in let r = ap (levelIn (size g) work) q in omega arith
+
+      pub spreading-marked : Spreading g e half after head (tail + 1) x word (p + 1)
       spreading-marked =
           record {
             searching =
@@ -105,21 +131,26 @@ module _ (g : Grid) (e : List ℤ) (len : length e ≡ size g) (half : ℕ) (wor
                 (λ j h. rw (P .first) at (P .searching .search .close head j (omega arith) (P .more) h))
                 (λ i h k. rw (P .first) at (P .searching .search .sorted head i h k));
             more = let h = P .more in omega arith;
-            first = Rattle.flow_laws.proofs.Words.queue-first (size g) half tail (neighbour g x p) word work hn hl m-on m-room head (P .more) ∙ P .first;
-            high = ap (λ (w : ℕ). w + 1) (other x (λ q. let a = x-high in let b = no-level in let r = ap (levelIn (size g) work) q in omega arith)) ∙ P .high;
+            first = queue-first (size g) half tail (neighbour g x p) word work hn hl m-on m-room head (P .more) ∙ P .first;
+            high = ap (λ (w : ℕ). w + 1) (other x (different x (let a = x-high in omega arith))) ∙ P .high;
             done = λ q l. ⊎-elim (λ i t. kept (neighbour g x q) (P .done q i t)) (λ i t. rw i here) (last? p q l);
           }
         where
-          kept : (y : ℕ) → 0 < levelIn (size g) work y → 0 < levelIn (size g) (set (set work (neighbour g x p) word) (half + tail) (neighbour g x p)) y
-          kept y h = rw (other y (λ q. let b = no-level in let r = ap (levelIn (size g) work) q in omega arith)) h
+          kept : (y : ℕ) → 0 < levelIn (size g) work y → 0 < levelIn (size g) after y
+          kept y h = rw (other y (different y h)) h
 
-          here : 0 < levelIn (size g) (set (set work (neighbour g x p) word) (half + tail) (neighbour g x p)) (neighbour g x p)
-          here = let q = Rattle.flow_laws.proofs.Words.level-here (size g) half tail (neighbour g x p) word work hn hl m-on m-room in let r = up in omega arith
+          here : 0 < levelIn (size g) after (neighbour g x p)
+          here =
+              let q = level-here (size g) half tail (neighbour g x p) word work hn hl m-on m-room in
+              let r = up in
+              omega arith
 
-    pub spreading-more : {work′ : List ℕ} {m r : ℕ} (k : ℕ) → size g ≤ half → half + size g ≤ length work → p < 8 → m ≡ neighbour g x p → at e x ≡ levelOf k
-        → Touched e half work work′ k word tail m r → Spreading g e half work′ head r x word (p + 1)
+    pub spreading-more : {work′ : List ℕ} {m r : ℕ} (k : ℕ) → size g ≤ half → half + size g ≤ length work → p < 8
+        → m ≡ neighbour g x p → at e x ≡ levelOf k → Touched e half work work′ k word tail m r
+        → Spreading g e half work′ head r x word (p + 1)
     spreading-more {work′} {m} {r} k hn hl hp q s (inl (a, b, f)) = rw (a, b) (spreading-passed (rw (q, sym s) at f))
-    spreading-more {work′} {m} {r} k hn hl hp q s (inr (a, b, h, z)) = rw (a, b, q) (spreading-marked hn hl hp (rw (q, sym s) at h) (rw q at z))
+    spreading-more {work′} {m} {r} k hn hl hp q s (inr (a, b, h, z)) =
+        rw (a, b, q) (spreading-marked hn hl hp (rw (q, sym s) at h) (rw q at z))
 
     pub spreading-end : 8 ≤ p → Searching g e half work (size g) (head + 1) tail
     spreading-end h =
@@ -131,4 +162,6 @@ module _ (g : Grid) (e : List ℤ) (len : length e ≡ size g) (half : ℕ) (wor
         }
       where
         all : (m : ℕ) → Equal g e x m → 0 < levelIn (size g) work m
-        all m b = let l = b .eight in subst (λ (y : ℕ). 0 < levelIn (size g) work y) (b .there) (P .done (b .position) (omega arith) (b .equal))
+        all m b =
+            let l = b .eight in
+            subst (λ (y : ℕ). 0 < levelIn (size g) work y) (b .there) (P .done (b .position) (omega arith) (b .equal))

@@ -1,4 +1,5 @@
--- What a look at the cell m makes of the work buffer: it gets `word` and is queued where it has no word and lies at the elevation of the key k.
+-- What a look at the cell m makes of the work buffer: it gets `word` and is queued where it has no word and lies at the elevation of the
+-- key k.
 use mathlib.Core.Path.{_≡_}
 use mathlib.Core.Logic.{_⊎_}
 use mathlib.Core.List.{List}

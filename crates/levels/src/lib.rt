@@ -1,19 +1,20 @@
-// Levels (document 01, "Directions"): how far each cell of a flat is from a cell of level 0, in steps to equal neighbours. Given the words of the cells of level
-// 0 it finds all others in linear time, breadth first: one look at each cell for level 1, then the queue, whose cells stand by rising level, so that a
-// cell is marked by the lowest of its equal neighbours. "The queue of waiting cells lies in the second half of the lent work buffer", lent on as its
-// tail. Proved by the certificate of `flow_laws`: each loop keeps the state `Searching`.
-use cells::is_inner;
-use cells::key_at;
-use cells::near;
+// Levels (document 01, "Directions"): how far each cell of a flat is from a cell of level 0, in steps to equal neighbours. Given the words
+// of the cells of level 0 it finds all others in linear time, breadth first: one look at each cell for level 1, then the queue, whose cells
+// stand by rising level, so that a cell is marked by the lowest of its equal neighbours. "The queue of waiting cells lies in the second
+// half of the lent work buffer", lent on as its tail. A data cell that is not at level 0 is no outlet, so it lies within the border, and
+// its neighbours at fixed distances. Proved by the certificate of `flow_laws`: each loop keeps the state `Searching`.
+use cells::beside;
+use cells::key;
 use grid::Grid;
 ghost use mathlib.Core.Path.{_≡_};
-ghost use mathlib.Core.Bool.{Bool, true, false};
+ghost use mathlib.Core.Bool.{Bool, true, false, cond};
 ghost use Prim.Native.Nat.{ℕ, _+_, _*_, _/_, _%_, _<_, _≤_, _^_};
 ghost use lib.ListN.{length, getD, set};
 ghost use lib.IntN.{ℤ};
 ghost use Rattle.grid.specs.Sheet.{size, at, neighbour};
 ghost use Rattle.grid.specs.Directions.{isEqual};
 ghost use Rattle.cells.specs.Keys.{keyOf, levelOf};
+ghost use Rattle.cells.specs.Steps.{Inner};
 ghost use Rattle.flow_laws.specs.Words.{levelIn, Seeded, Searching, Joining, Levelled, Room};
 ghost use Rattle.levels.specs.Touched.{Touched};
 
@@ -40,7 +41,8 @@ fn mark(half: usize, tail: usize, m: usize, word: u32, work: &mut [u32]) -> usiz
     push(&mut work[half..], tail, m)
 }
 
-// Marks and queues the cell `m` if it has no word and the elevation of the key `k`.
+// Marks and queues the cell `m` if it has no word and the elevation of the key `k`. Both are read before either is tested, so that the
+// compiler can join the tests.
 fn touch(
     elevations: &[i16],
     half: usize,
@@ -53,17 +55,17 @@ fn touch(
     requires { ⌜ length (now elevations) < 2 ^ 24 ⌝ }
     requires { ⌜ length (now elevations) ≤ half ⌝ }
     requires { ⌜ half + length (now elevations) ≤ length (now work) ⌝ }
+    requires { ⌜ m < length (now elevations) ⌝ }
     requires { ⌜ 0 < k ⌝ }
     requires { ⌜ Room (length (now elevations)) (now work) tail ⌝ }
     ensures { λ r. ⌜ Touched (now (elevations .entry)) half (now (work .entry)) (now (work .exit)) k word tail m r ⌝ }
 {
-    if m >= elevations.len() {
+    let own = key(elevations[m]);
+    let has = work[m];
+    if has != 0 {
         return tail;
     }
-    if work[m] != 0 {
-        return tail;
-    }
-    if key_at(elevations, m) != k {
+    if own != k {
         return tail;
     }
     mark(half, tail, m, word, work)
@@ -88,15 +90,11 @@ fn spread(
 {
     let cell = work[half + head] as usize;
     let word = work[cell] + 1;
-    let k = key_at(elevations, cell);
-    let cols = g.cols;
-    let row = cell / cols;
-    let col = cell % cols;
-    let inner = is_inner(g, row, col);
+    let k = key(elevations[cell]);
     let mut end = tail;
     let mut p: usize = 0;
     while p < 8 {
-        let m = near(g, cell, row, col, inner, p);
+        let m = beside(g, cell, p);
         end = touch(elevations, half, k, word, end, m, work);
         p += 1;
     }
@@ -121,43 +119,55 @@ fn empty_queue(g: Grid, elevations: &[i16], half: usize, tail: usize, work: &mut
     end
 }
 
-// The position of an equal neighbour of level 0, or 8; `k` is the cell's key.
+// The one or the other: a choice of a number, so that the loop around it has no branch.
+fn pick(test: bool, yes: usize, no: usize) -> usize
+    ensures { λ r. ⌜ r ≡ cond test yes no ⌝ }
+{
+    if test {
+        return yes;
+    }
+    no
+}
+
+// The position of an equal neighbour of level 0, the last of them, or 8; `k` is the cell's key.
 fn beside_level_zero(g: Grid, elevations: &[i16], cell: usize, k: u32, work: &[u32]) -> usize
     requires { ⌜ length (now elevations) ≡ size g ⌝ }
     requires { ⌜ size g < 2 ^ 24 ⌝ }
     requires { ⌜ size g ≤ length (now work) ⌝ }
     requires { ⌜ cell < size g ⌝ }
+    requires { ⌜ Inner g (cell / g .cols) (cell % g .cols) ⌝ }
     requires { ⌜ at (now elevations) cell ≡ levelOf k ⌝ }
     requires { ⌜ 0 < k ⌝ }
-    ensures { λ r. ⌜ (r < 8 → (isEqual g (now (elevations .entry)) cell r ≡ true) × (levelIn (size g) (now (work .entry)) (neighbour g cell r) ≡ 1)) ⌝ }
-    ensures { λ r. ⌜ (8 ≤ r → (p : ℕ) → p < 8 → isEqual g (now (elevations .entry)) cell p ≡ true → levelIn (size g) (now (work .entry)) (neighbour g cell p) ≡ 1 → ⊥) ⌝ }
+    ensures { λ r. ⌜ (r < 8 → (isEqual g (now (elevations .entry)) cell r ≡ true)
+        × (levelIn (size g) (now (work .entry)) (neighbour g cell r) ≡ 1)) ⌝ }
+    ensures { λ r. ⌜ (8 ≤ r → (p : ℕ) → p < 8 → isEqual g (now (elevations .entry)) cell p ≡ true
+        → levelIn (size g) (now (work .entry)) (neighbour g cell p) ≡ 1 → ⊥) ⌝ }
 {
-    let cols = g.cols;
-    let row = cell / cols;
-    let col = cell % cols;
-    let inner = is_inner(g, row, col);
+    let mut found: usize = 8;
     let mut p: usize = 0;
     while p < 8 {
-        let m = near(g, cell, row, col, inner, p);
-        if is_zero_at(elevations, k, m, work) {
-            return p;
-        }
+        let m = beside(g, cell, p);
+        found = pick(is_zero_at(elevations, k, m, work), p, found);
         p += 1;
     }
-    8
+    found
 }
 
 // Whether the cell `m` has level 0 and the elevation of the key `k`.
 fn is_zero_at(elevations: &[i16], k: u32, m: usize, work: &[u32]) -> bool
     requires { ⌜ length (now elevations) ≤ length (now work) ⌝ }
+    requires { ⌜ m < length (now elevations) ⌝ }
     requires { ⌜ 0 < k ⌝ }
-    ensures { λ r. ⌜ (r ≡ true → (at (now (elevations .entry)) m ≡ levelOf k) × ((0 < getD (now (work .entry)) m 0) × (getD (now (work .entry)) m 0 < 256))) ⌝ }
-    ensures { λ r. ⌜ (r ≡ false → at (now (elevations .entry)) m ≡ levelOf k → 0 < getD (now (work .entry)) m 0 → 256 ≤ getD (now (work .entry)) m 0) ⌝ }
+    ensures { λ r. ⌜ (r ≡ true → (at (now (elevations .entry)) m ≡ levelOf k)
+        × ((0 < getD (now (work .entry)) m 0) × (getD (now (work .entry)) m 0 < 256))) ⌝ }
+    ensures { λ r. ⌜ (r ≡ false → at (now (elevations .entry)) m ≡ levelOf k → 0 < getD (now (work .entry)) m 0
+        → 256 ≤ getD (now (work .entry)) m 0) ⌝ }
 {
-    if key_at(elevations, m) != k {
+    let own = key(elevations[m]);
+    let word = work[m];
+    if own != k {
         return false;
     }
-    let word = work[m];
     if word == 0 {
         return false;
     }
@@ -187,7 +197,7 @@ fn join(
     if work[cell] != 0 {
         return tail;
     }
-    let k = key_at(elevations, cell);
+    let k = key(elevations[cell]);
     if k == 0 {
         return tail;
     }

@@ -1,29 +1,31 @@
 -- Drops as differences of keys: the definitions over the keys around a cell.
-use mathlib.Core.Path.{_≡_, refl, sym, _∙_, ap, ap₂}
-use mathlib.Core.Bool.{Bool, true, false, not, cond, _&&_}
+use mathlib.Core.Path.{_≡_, refl, sym, _∙_, ap, ap₂, subst}
+use mathlib.Core.Bool.{Bool, true, false, not, cond, _&&_, _||_}
+use mathlib.Core.Logic.{_⊎_, ⊎-elim}
 use mathlib.Core.List.{List}
-use Prim.Native.Nat.{ℕ, zero, suc, _-_, _*_, _≤_, _<_}
+use Prim.Native.Nat.{ℕ, zero, suc, _+_, _-_, _*_, _≤_, _<_}
 use native.Mathlib.Nat.{zero-mul}
-use native.Mathlib.Decide.{decLt, ℕ-discrete}
+use native.Mathlib.Decide.{decLt}
 use native.Mathlib.Omega.{arith}
-use lib.Dec.{ltb}
-use lib.ListN.{length, getD}
+use lib.Dec.{eqb, ltb}
+use lib.ListN.{length, getD, set, length-set}
+use lib.Seq.{getD-set-same, getD-set-other}
 use lib.IntN.{ℤ, pos, negsuc}
 use lib.Signed.{ltZ, _≤ℤ_}
-use borrow.Author.Tests.{ltb-true, lt-ltb, le-ltb}
+use borrow.Author.Count.{below-more}
+use borrow.Author.Tests.{ltb-true, lt-ltb, le-ltb, eqb-false}
 use Rattle.grid.specs.declared.Grid.{Grid}
 use Rattle.grid.specs.Below.{anyBelow}
 use Rattle.grid.specs.Sheet.{size, void, top, at, isData, neighbour, codeAt}
-use Rattle.grid.specs.Outlet.{outletCode}
-use Rattle.grid.specs.Directions.{drop, squaredDistance, beats, beaten, isSteepest, steepestSum, hasDescent, choice}
-use Rattle.grid_laws.proofs.Tests.{and-false-left, and-false-right, cond-true, cond-false}
-use Rattle.grid_laws.proofs.Below.{any-ext, sum-ext}
+use Rattle.grid.specs.Outlet.{leavesAt, isOutlet}
+use Rattle.grid.specs.Directions.{drop, squaredDistance, beats, beaten, isSteepest, steepestSum}
+use Rattle.grid_laws.proofs.Tests.{test, and-false-left, and-false-right, cond-true, cond-false, or-none-left, or-none-right}
+use Rattle.grid_laws.proofs.Below.{any-ext, no-of-any, sum-ext, is-table, at-table}
 use Rattle.cells.specs.Keys.{keyOf}
-use Rattle.cells.specs.Around.{raised, raisedAt, aroundOf, outletIn, KnownTo}
-use Rattle.cells.proofs.Keys.{data-key, key-falls, key-drop, key-difference, key-small}
-use Rattle.cells.proofs.Codes.{raised-void, raised-data, around-at, outlet-in, outlet-above, outlet-none}
-use Rattle.slopes.specs.Steepest.{squareAt, unbeaten, steepestIn, firstCode}
-use Rattle.slopes.proofs.Largest.{steepest-positive}
+use Rattle.cells.specs.Around.{KnownTo}
+use Rattle.cells.proofs.Keys.{Known, data-key, zero-key, key-falls, key-drop, key-difference}
+use Rattle.cells.proofs.Codes.{leaves-key}
+use Rattle.slopes.specs.Steepest.{keysOf, squareAt, unbeaten, steepestIn, anyVoid, markedIn, innerSum}
 
 -- the definition of the larger weighted drop, for drops that are not negative, is a comparison of products: what the function `beats` works out
 pub beats-products : (g : Grid) (a b q p : ℕ) → beats g (pos a) q (pos b) p ≡ ltb (b * b * squaredDistance g q) (a * a * squaredDistance g p)
@@ -37,147 +39,143 @@ up-loses g a b q p = refl
 nothing-over : (a d x : ℕ) → a ≡ 0 → ltb x (a * a * d) ≡ false
 nothing-over a d x e = le-ltb x (a * a * d) (rw e (rw (zero-mul d) (omega arith)))
 
-raised-positive : (k : ℕ) → 0 < raised k
-raised-positive k = go (ℕ-discrete k 0)
-  where
-    go : Dec (k ≡ 0) → 0 < raised k
-    go (yes e) = omega (arith, raised-void k e)
-    go (no f) = above (raised k) (λ z. f (raised-data k f ∙ z))
-      where
-        above : (x : ℕ) → (x ≡ 0 → ⊥) → 0 < x
-        above zero h = absurd (h refl)
-        above (suc x) h = omega arith
+-- ---- the keys around a cell, gathered position by position
+pub record Gathered (g : Grid) (e : List ℤ) (c : ℕ) (l : List ℕ) (p : ℕ) : Type 0 where
+  pub within : p ≤ 8
+  pub eight : length l ≡ 8
+  pub keys : (q : ℕ) → q < p → getD l q 0 ≡ keyOf (at e (neighbour g c q))
+  pub known : KnownTo g e c p
 
--- the code of level 0 of an outlet
-pub outlet-first : (g : Grid) (e : List ℤ) (c : ℕ) → length e ≡ size g → KnownTo g e c 8 → isData e c ≡ true → (r : ℕ) →
-    r ≡ outletIn (aroundOf g e c) → (r ≡ 0 → ⊥) → r ≡ firstCode g e c
-unfolding firstCode
-outlet-first g e c h known hd r q f =
-    let o = outlet-above g e c h known r hd q f in
-    q ∙ outlet-in g e c h known hd ∙ cond-true (outletCode g e c) 0 o ∙ sym (cond-true (outletCode g e c) (choice (steepestSum g e c)) o)
+pub gathered-none : (g : Grid) (e : List ℤ) (c : ℕ) (l : List ℕ) → length l ≡ 8 → Gathered g e c l 0
+gathered-none g e c l h =
+    record {
+      within = omega arith;
+      eight = h;
+      keys = λ q b. let z : ⊥ = omega arith in absurd z;
+      known = λ q b. let z : ⊥ = omega arith in absurd z;
+    }
 
-module _ (g : Grid) (e : List ℤ) (c : ℕ) (hc : void ≤ℤ at e c) (ht : at e c ≤ℤ top) (known : KnownTo g e c 8) where
-  abbrev own : ℕ
-  own = keyOf (at e c)
+-- m is the neighbour at p, and k its key
+pub gathered-more : (g : Grid) (e : List ℤ) (c : ℕ) (l : List ℕ) (p m k : ℕ) → p < 8 → Gathered g e c l p → m ≡ neighbour g c p →
+    Known k (at e m) → Gathered g e c (set l p k) (p + 1)
+gathered-more g e c l p m k h G em K =
+    record {
+      within = omega arith;
+      eight = length-set l p k ∙ G .eight;
+      keys =
+          below-more (λ q. getD (set l p k) q 0 ≡ keyOf (at e (neighbour g c q))) p
+          (λ q b. getD-set-other l p q k 0 (λ e. let z : ⊥ = omega arith in absurd z) ∙ G .keys q b)
+          (getD-set-same l p k 0 (rw (G .eight) h) ∙ K .0 ∙ ap (λ (x : ℕ). keyOf (at e x)) em);
+      known = below-more (λ q. (void ≤ℤ at e (neighbour g c q)) × (at e (neighbour g c q) ≤ℤ top)) p (G .known)
+          (subst (λ (x : ℕ). (void ≤ℤ at e x) × (at e x ≤ℤ top)) em (K .1 .1));
+    }
 
+pub gathered-all : (g : Grid) (e : List ℤ) (c : ℕ) (l : List ℕ) → Gathered g e c l 8 → l ≡ keysOf g e c
+unfolding keysOf
+gathered-all g e c l G = is-table 8 (λ p. keyOf (at e (neighbour g c p))) l 0 (G .eight) (G .keys)
+
+module _ (g : Grid) (e : List ℤ) (c : ℕ) (known : KnownTo g e c 8) where
   abbrev key : ℕ → ℕ
   key q = keyOf (at e (neighbour g c q))
 
   abbrev l : List ℕ
-  l = aroundOf g e c
+  l = keysOf g e c
 
-  own-small : own < 65536
-  own-small = key-small (at e c) ht
+  around : (q : ℕ) → q < 8 → getD l q 0 ≡ key q
+  unfolding keysOf
+  around q h = at-table 8 key q 0 h
 
-  -- the key around is the neighbour's, or above the cell's own
-  around-data : (q : ℕ) → q < 8 → (key q ≡ 0 → ⊥) → getD l q 0 ≡ key q
-  unfolding raisedAt
-  around-data q h f = around-at g e c q h ∙ sym (raised-data (key q) f)
+  -- ---- no void is near: the drops are those of the definition
+  module _ (hc : void ≤ℤ at e c) (full : (q : ℕ) → q < 8 → 0 < key q) where
+    abbrev own : ℕ
+    own = keyOf (at e c)
 
-  around-void : (q : ℕ) → q < 8 → key q ≡ 0 → getD l q 0 ≡ 65536
-  unfolding raisedAt
-  around-void q h z = around-at g e c q h ∙ sym (raised-void (key q) z)
+    fall-is : (q : ℕ) → q < 8 → (isData e (neighbour g c q) && ltZ (pos 0) (drop g e c q)) ≡ ltb (getD l q 0) own
+    unfolding drop
+    fall-is q h =
+        ap₂ _&&_ (data-key e (neighbour g c q) (known q h .0) ∙ lt-ltb 0 (key q) (full q h))
+        (key-falls (at e c) (at e (neighbour g c q)) hc (known q h .0)) ∙ ap (λ (x : ℕ). ltb x own) (sym (around q h))
 
-  pub around-positive : (q : ℕ) → q < 8 → 0 < getD l q 0
-  unfolding raisedAt
-  around-positive q h = rw (around-at g e c q h) (raised-positive (key q))
+    drop-down : (q : ℕ) → q < 8 → key q ≤ own → drop g e c q ≡ pos (own - getD l q 0)
+    unfolding drop
+    drop-down q h k = key-drop (at e c) (at e (neighbour g c q)) hc (known q h .0) k ∙ ap (λ (x : ℕ). pos (own - x)) (sym (around q h))
 
-  fall-is : (q : ℕ) → q < 8 → (isData e (neighbour g c q) && ltZ (pos 0) (drop g e c q)) ≡ ltb (getD l q 0) own
-  unfolding drop
-  fall-is q h = ap₂ _&&_ (data-key e (neighbour g c q) (known q h .0))
-      (key-falls (at e c) (at e (neighbour g c q)) hc (known q h .0)) ∙ go (ℕ-discrete (key q) 0)
-    where
-      go : Dec (key q ≡ 0) → (ltb 0 (key q) && ltb (key q) own) ≡ ltb (getD l q 0) own
-      go (yes z) =
-          let v = around-void q h z in
-          let o = own-small in
-          and-false-left (ltb (key q) own) (le-ltb 0 (key q) (omega arith)) ∙ sym (le-ltb (getD l q 0) own (omega arith))
-      go (no f) = ap (λ (t : Bool). t && ltb (key q) own) (lt-ltb 0 (key q) (above (key q) f)) ∙ ap (λ (x : ℕ). ltb x own)
-          (sym (around-data q h f))
-        where
-          above : (x : ℕ) → (x ≡ 0 → ⊥) → 0 < x
-          above zero k = absurd (k refl)
-          above (suc x) k = omega arith
+    drop-up : (q : ℕ) → q < 8 → own < key q → drop g e c q ≡ negsuc (key q - suc own)
+    unfolding drop
+    drop-up q h k = key-difference (at e c) (at e (neighbour g c q)) hc (known q h .0) ∙ cond-true (negsuc (key q - suc own))
+        (pos (own - key q)) (lt-ltb own (key q) k)
 
-  drop-down : (q : ℕ) → q < 8 → key q ≤ own → drop g e c q ≡ pos (own - key q)
-  unfolding drop
-  drop-down q h k = key-drop (at e c) (at e (neighbour g c q)) hc (known q h .0) k
+    abbrev over : ℕ → ℕ → Bool
+    over p q = ltb (squareAt own l p * squaredDistance g q) (squareAt own l q * squaredDistance g p)
 
-  drop-up : (q : ℕ) → q < 8 → own < key q → drop g e c q ≡ negsuc (key q - suc own)
-  unfolding drop
-  drop-up q h k = key-difference (at e c) (at e (neighbour g c q)) hc (known q h .0) ∙ cond-true (negsuc (key q - suc own))
-      (pos (own - key q)) (lt-ltb own (key q) k)
+    -- q beats p, where p has a drop above 0
+    beats-is : (p q : ℕ) → p < 8 → q < 8 → getD l p 0 < own →
+        (isData e (neighbour g c q) && beats g (drop g e c q) q (drop g e c p) p) ≡ over p q
+    beats-is p q hp hq lp =
+        ap (λ (t : Bool). t && beats g (drop g e c q) q (drop g e c p) p)
+        (data-key e (neighbour g c q) (known q hq .0) ∙ lt-ltb 0 (key q) (full q hq)) ∙ go (decLt own (key q))
+      where
+        down : drop g e c p ≡ pos (own - getD l p 0)
+        down = drop-down p hp (omega (arith, around p hp))
 
-  abbrev over : ℕ → ℕ → Bool
-  over p q = ltb (squareAt own l p * squaredDistance g q) (squareAt own l q * squaredDistance g p)
+        go : Dec (own < key q) → beats g (drop g e c q) q (drop g e c p) p ≡ over p q
+        go (yes k) =
+            ap₂ (λ (x y : ℤ). beats g x q y p) (drop-up q hq k) down ∙ up-loses g (key q - suc own) (own - getD l p 0) q p
+            ∙ sym (nothing-over (own - getD l q 0) (squaredDistance g p) (squareAt own l p * squaredDistance g q) (omega (arith, around q hq)))
+        go (no k) =
+            ap₂ (λ (x y : ℤ). beats g x q y p) (drop-down q hq (omega arith)) down
+            ∙ beats-products g (own - getD l q 0) (own - getD l p 0) q p
 
-  -- q beats p, where p has a drop above 0
-  beats-is : (p q : ℕ) → p < 8 → q < 8 → getD l p 0 < own → (isData e (neighbour g c q) && beats g (drop g e c q) q (drop g e c p) p) ≡ over p q
-  beats-is p q hp hq lp = go (ℕ-discrete (key q) 0) (decLt own (key q))
-    where
-      there : key p ≡ 0 → ⊥
-      there z = let v = around-void p hp z in let o = own-small in let y : ⊥ = omega arith in absurd y
+    steep-is : (p : ℕ) → p < 8 → isSteepest g e c p ≡ unbeaten g own l p
+    unfolding isSteepest beaten unbeaten
+    steep-is p h = go (ltb (getD l p 0) own) refl
+      where
+        go : (t : Bool) → ltb (getD l p 0) own ≡ t → isSteepest g e c p ≡ (ltb (getD l p 0) own && not (anyBelow 8 (over p)))
+        go true t =
+            ap₂ _&&_ (fall-is p h)
+            (ap not (any-ext 8 (λ q. isData e (neighbour g c q) && beats g (drop g e c q) q (drop g e c p) p) (over p)
+            (λ q k. beats-is p q h k (ltb-true (getD l p 0) own t))))
+        go false t = and-false-left (not (beaten g e c p)) (fall-is p h ∙ t) ∙ sym (and-false-left (not (anyBelow 8 (over p))) t)
 
-      same-p : getD l p 0 ≡ key p
-      same-p = around-data p hp there
+    steepest-is : steepestIn g own l ≡ steepestSum g e c
+    unfolding steepestSum steepestIn
+    steepest-is =
+        sum-ext 8 (λ p. cond (unbeaten g own l p) (codeAt p) 0) (λ p. cond (isSteepest g e c p) (codeAt p) 0)
+        (λ p h. ap (λ (t : Bool). cond t (codeAt p) 0) (sym (steep-is p h)))
 
-      down : drop g e c p ≡ pos (own - getD l p 0)
-      down = drop-down p hp (omega (arith, same-p)) ∙ ap (λ (x : ℕ). pos (own - x)) (sym same-p)
+  -- ---- a void is near exactly where the cell is void or an outlet
+  module _ (len : length e ≡ size g) (hc : void ≤ℤ at e c) where
+    near-leaves : (q : ℕ) → q < 8 → eqb (getD l q 0) 0 ≡ leavesAt g e c q
+    near-leaves q h = leaves-key g e len c q (getD l q 0) (known q h .0) (around q h)
 
-      none : own ≤ getD l q 0 → over p q ≡ false
-      none k = nothing-over (own - getD l q 0) (squaredDistance g p) (squareAt own l p * squaredDistance g q) (omega arith)
+    void-near : (isData e c && not (isOutlet g e c)) ≡ not (anyVoid (keyOf (at e c)) l)
+    unfolding isOutlet anyVoid
+    void-near =
+        both (isData e c) (eqb (keyOf (at e c)) 0) (anyBelow 8 (leavesAt g e c)) (anyBelow 8 (λ q. eqb (getD l q 0) 0))
+        (zero-key (keyOf (at e c)) ∙ ap not (sym (data-key e c hc)))
+        (any-ext 8 (λ q. eqb (getD l q 0) 0) (leavesAt g e c) near-leaves)
+      where
+        both : (d v o w : Bool) → v ≡ not d → w ≡ o → (d && not (d && o)) ≡ not (v || w)
+        both true v o w p q = sym (ap₂ (λ (x y : Bool). not (x || y)) p q)
+        both false v o w p q = sym (ap₂ (λ (x y : Bool). not (x || y)) p q)
 
-      go : Dec (key q ≡ 0) → Dec (own < key q) → (isData e (neighbour g c q) && beats g (drop g e c q) q (drop g e c p) p) ≡ over p q
-      go (yes z) k =
-          let v = around-void q hq z in
-          let o = own-small in
-          and-false-left (beats g (drop g e c q) q (drop g e c p) p)
-          (data-key e (neighbour g c q) (known q hq .0) ∙ le-ltb 0 (key q) (omega arith)) ∙ sym (none (omega arith))
-      go (no f) (yes k) =
-          let v = around-data q hq f in
-          and-false-right (isData e (neighbour g c q))
-          (ap₂ (λ (x y : ℤ). beats g x q y p) (drop-up q hq k) down ∙ up-loses g (key q - suc own) (own - getD l p 0) q p) ∙ sym
-          (none (omega arith))
-      go (no f) (no k) =
-          let v = around-data q hq f in
-          ap (λ (t : Bool). t && beats g (drop g e c q) q (drop g e c p) p)
-          (data-key e (neighbour g c q) (known q hq .0) ∙ lt-ltb 0 (key q) (above (key q) f))
-          ∙ ap₂ (λ (x y : ℤ). beats g x q y p) (drop-down q hq (omega arith) ∙ ap (λ (x : ℕ). pos (own - x)) (sym v)) down
-          ∙ beats-products g (own - getD l q 0) (own - getD l p 0) q p
-        where
-          above : (x : ℕ) → (x ≡ 0 → ⊥) → 0 < x
-          above zero k = absurd (k refl)
-          above (suc x) k = omega arith
+    pub marked-is : markedIn g (keyOf (at e c)) l ≡ innerSum g e c
+    unfolding markedIn innerSum anyVoid
+    marked-is = ⊎-elim near clear (test (anyVoid (keyOf (at e c)) l))
+      where
+        near : anyVoid (keyOf (at e c)) l ≡ true → markedIn g (keyOf (at e c)) l ≡ innerSum g e c
+        near t = cond-true 256 (steepestIn g (keyOf (at e c)) l) t ∙ sym (cond-false (steepestSum g e c) 256 (void-near ∙ ap not t))
 
-  steep-is : (p : ℕ) → p < 8 → isSteepest g e c p ≡ unbeaten g own l 8 p
-  unfolding isSteepest beaten unbeaten
-  steep-is p h = go (ltb (getD l p 0) own) refl
-    where
-      go : (t : Bool) → ltb (getD l p 0) own ≡ t → isSteepest g e c p ≡ (ltb (getD l p 0) own && not (anyBelow 8 (over p)))
-      go true t =
-          ap₂ _&&_ (fall-is p h)
-          (ap not (any-ext 8 (λ q. isData e (neighbour g c q) && beats g (drop g e c q) q (drop g e c p) p) (over p)
-          (λ q k. beats-is p q h k (ltb-true (getD l p 0) own t))))
-      go false t = and-false-left (not (beaten g e c p)) (fall-is p h ∙ t) ∙ sym (and-false-left (not (anyBelow 8 (over p))) t)
+        positive : (q : ℕ) → anyVoid (keyOf (at e c)) l ≡ false → q < 8 → 0 < key q
+        positive q t h =
+            let none = no-of-any 8 (λ r. eqb (getD l r 0) 0) (or-none-right (eqb (keyOf (at e c)) 0) (anyBelow 8 (λ r. eqb (getD l r 0) 0)) t) q h in
+            above (key q) (λ z. eqb-false (getD l q 0) 0 none (around q h ∙ z))
+          where
+            above : (x : ℕ) → (x ≡ 0 → ⊥) → 0 < x
+            above zero f = absurd (f refl)
+            above (suc x) f = omega arith
 
-  pub steepest-is : steepestIn g own l ≡ steepestSum g e c
-  unfolding steepestSum steepestIn
-  steepest-is =
-      sum-ext 8 (λ p. cond (unbeaten g own l 8 p) (codeAt p) 0) (λ p. cond (isSteepest g e c p) (codeAt p) 0)
-      (λ p h. ap (λ (t : Bool). cond t (codeAt p) 0) (sym (steep-is p h)))
-
-  -- a cell has a drop above 0 exactly where the sum of its steepest codes is above 0
-  pub descent-sum : hasDescent g e c ≡ ltb 0 (steepestSum g e c)
-  unfolding hasDescent
-  descent-sum =
-      any-ext 8 (λ p. isData e (neighbour g c p) && ltZ (pos 0) (drop g e c p)) (λ q. ltb (getD l q 0) own) fall-is
-      ∙ steepest-positive g own l
-      ∙ ap (ltb 0) steepest-is
-
-  -- ---- the code of level 0
-  module _ (h : length e ≡ size g) (hd : isData e c ≡ true) where
-    pub first-choice : (r : ℕ) → r ≡ outletIn l → r ≡ 0 → (s : ℕ) → s ≡ steepestIn g own l → choice s ≡ firstCode g e c
-    unfolding firstCode
-    first-choice r q z s es =
-        let o = outlet-none g e c h known r hd q z in
-        ap choice (es ∙ steepest-is) ∙ sym (cond-false (outletCode g e c) (choice (steepestSum g e c)) o)
+        clear : anyVoid (keyOf (at e c)) l ≡ false → markedIn g (keyOf (at e c)) l ≡ innerSum g e c
+        clear t =
+            cond-false 256 (steepestIn g (keyOf (at e c)) l) t ∙ steepest-is hc (λ q h. positive q t h)
+            ∙ sym (cond-true (steepestSum g e c) 256 (void-near ∙ ap not t))

@@ -1,16 +1,20 @@
 // Drops to the neighbours of a cell ("Directions"): which is the largest when weighted by distance, the sum of the codes that have it, and the
-// table that chooses one code for each sum. The comparison is one of products of 64 bits; the sum is worked out in one pass over the eight
-// positions, which keeps the best drop so far and the codes that tie with it; the table's rule is computed once, for all 256 entries.
-use cells::Direction;
+// table that chooses one code for each sum. The comparison is one of products of 64 bits. Four sides are equally far, and so are four corners:
+// the lowest side and the lowest corner have the largest drops of each, and one comparison decides between them, for whole rows without a
+// branch. Cells of other proportions will make three such classes of the two. The table's rule is computed once, for all 256 entries.
 use grid::Grid;
 ghost use mathlib.Core.Path.{_≡_};
 ghost use mathlib.Core.Bool.{Bool, true, false, cond};
-ghost use Prim.Native.Nat.{ℕ, _+_, _-_, _*_, _<_, _≤_, _^_};
+ghost use Prim.Native.Nat.{ℕ, _+_, _-_, _*_, _/_, _%_, _<_, _≤_, _^_};
 ghost use lib.Dec.{ltb};
 ghost use lib.ListN.{length, getD};
-ghost use Rattle.grid.specs.Sheet.{size, isData, codeAt};
-ghost use Rattle.grid.specs.Directions.{squaredDistance, steepestSum, choice};
-ghost use Rattle.slopes.specs.Steepest.{choices as choices', steepest, weighed, steepestIn, firstCode};
+ghost use Rattle.grid.specs.Sheet.{size};
+ghost use Rattle.grid.specs.Directions.{squaredDistance, choice};
+ghost use Rattle.cells.specs.Around.{KnownTo};
+ghost use Rattle.cells.specs.Keys.{keyOf};
+ghost use Rattle.cells.specs.Steps.{Inner};
+ghost use Rattle.slopes.specs.Steepest.{choices as choices', keysOf, steepestIn, markedIn, innerSum};
+ghost use Rattle.slopes.specs.Steepest.{lowerOf, lowestOf, membersOf, lowSide, lowCorner, sideCodes, cornerCodes, leadsOf, largerOf};
 
 // "One table of 256 entries gives the choice for every sum".
 pub const CHOICE: [u8; 256] = [
@@ -302,7 +306,7 @@ pub fn squared_distance(g: Grid, p: usize) -> u32
 
 // The square of a drop times a squared distance: below 2 ^ 53. 32 bits would not hold twice the square of 65,534.
 fn weight(drop: u32, distance: u32) -> u64
-    requires { ⌜ drop ≤ 65534 ⌝ }
+    requires { ⌜ drop ≤ 65535 ⌝ }
     requires { ⌜ distance ≤ 2000000 ⌝ }
     ensures { λ r. ⌜ r ≡ drop * drop * distance ⌝ }
 {
@@ -311,107 +315,159 @@ fn weight(drop: u32, distance: u32) -> u64
 
 // Whether a drop `a` at a squared distance `da` is larger, by distance, than a drop `b` at `db`: a / √da > b / √db.
 pub fn beats(a: u32, da: u32, b: u32, db: u32) -> bool
-    requires { ⌜ (a ≤ 65534) × (b ≤ 65534) ⌝ }
+    requires { ⌜ (a ≤ 65535) × (b ≤ 65535) ⌝ }
     requires { ⌜ (da ≤ 2000000) × (db ≤ 2000000) ⌝ }
     ensures { λ r. ⌜ r ≡ ltb (b * b * da) (a * a * db) ⌝ }
 {
     weight(b, da) < weight(a, db)
 }
 
-// The largest weighted drop so far, and the sum of the codes that have it.
-pub struct Steepest {
-    pub drop: u32,
-    pub distance: u32,
-    pub sum: u32,
-}
-
 // One of two numbers by a test, without a branch: which neighbours are lower is anyone's guess.
-fn pick(test: bool, yes: u32, no: u32) -> u32
+fn pick(test: bool, yes: u16, no: u16) -> u16
     ensures { λ r. ⌜ r ≡ cond test yes no ⌝ }
 {
     if test { yes } else { no }
 }
 
+// The lower of two keys.
+fn lower(a: u16, b: u16) -> u16
+    ensures { λ r. ⌜ r ≡ lowerOf a b ⌝ }
+{
+    if b < a { b } else { a }
+}
+
+// The lowest of four keys.
+fn lowest(a: u16, b: u16, c: u16, d: u16) -> u16
+    ensures { λ r. ⌜ r ≡ lowestOf a b c d ⌝ }
+{
+    lower(lower(a, b), lower(c, d))
+}
+
 // The drop to a neighbour, 0 where it is no lower.
-fn fall(own: u32, key: u32) -> u32
+fn fall(own: u16, key: u16) -> u16
     ensures { λ r. ⌜ r ≡ own - key ⌝ }
 {
     if key < own { own - key } else { 0 }
 }
 
-// What stands after a drop at the position `p` has been compared with the best.
-fn joined(best: Steepest, drop: u32, distance: u32, more: bool, less: bool, p: usize) -> Steepest
-    requires { ⌜ best .sum < 256 ⌝ }
-    requires { ⌜ p < 8 ⌝ }
-    ensures { λ r. ⌜ r ≡ steepest (cond more drop (best .drop)) (cond more distance (best .distance)) (cond more 0 (best .sum) + cond less 0 (codeAt p)) ⌝ }
+// Which of four keys are `low`, as a sum of the codes of every other position: 1, 4, 16, 64.
+fn members(low: u16, a: u16, b: u16, c: u16, d: u16) -> u16
+    ensures { λ r. ⌜ r ≡ membersOf low a b c d ⌝ }
+    ensures { λ r. ⌜ r ≤ 85 ⌝ }
 {
-    let sum = pick(more, 0, best.sum) + pick(less, 0, Direction::code(p) as u32);
-    Steepest {
-        drop: pick(more, drop, best.drop),
-        distance: pick(more, distance, best.distance),
-        sum,
-    }
+    pick(a == low, 1, 0) + pick(b == low, 4, 0) + pick(c == low, 16, 0) + pick(d == low, 64, 0)
 }
 
-// A larger drop begins anew, an equal one adds its code, a smaller one leaves all as it is.
-fn weigh(best: Steepest, drop: u32, distance: u32, p: usize) -> Steepest
-    requires { ⌜ (best .drop ≤ 65534) × (best .distance ≤ 2000000) × (best .sum < 256) ⌝ }
-    requires { ⌜ (drop ≤ 65534) × (distance ≤ 2000000) ⌝ }
-    requires { ⌜ p < 8 ⌝ }
-    ensures { λ r. ⌜ r ≡ weighed best drop distance p ⌝ }
+// Whether a drop `a` at a squared distance `da` is above 0, and a drop `b` at `db` is not larger.
+fn leads(a: u16, da: u32, b: u16, db: u32) -> bool
+    requires { ⌜ (da ≤ 2000000) × (db ≤ 2000000) ⌝ }
+    ensures { λ r. ⌜ r ≡ leadsOf a da b db ⌝ }
 {
-    let more = beats(drop, distance, best.drop, best.distance);
-    let less = beats(best.drop, best.distance, drop, distance);
-    joined(best, drop, distance, more, less, p)
+    a > 0 && !beats(b as u32, db, a as u32, da)
 }
 
-// From a cell's key and the raised keys around it, the sum of the codes of the largest weighted drop; 0 where none is above 0.
-pub fn steepest_of(g: Grid, own: u32, keys: &[u32; 8]) -> u32
-    requires { ⌜ own < 65536 ⌝ }
-    requires { ⌜ ((p : ℕ) → p < 8 → 0 < getD (now keys) p 0) ⌝ }
+// Of the codes of the lowest sides, with a drop `a`, and those of the lowest corners, with a drop `b`: those of the larger drop, or both.
+fn larger(g: Grid, a: u16, sides: u16, b: u16, corners: u16) -> u16
+    requires { ⌜ (sides ≤ 170) × (corners ≤ 85) ⌝ }
+    ensures { λ r. ⌜ r ≡ largerOf g a sides b corners ⌝ }
+{
+    let da = squared_distance(g, 1);
+    let db = squared_distance(g, 0);
+    pick(leads(a, da, b, db), sides, 0) + pick(leads(b, db, a, da), corners, 0)
+}
+
+// Of the keys around a cell, the lowest of the sides, and of the corners.
+fn low_side(keys: &[u16; 8]) -> u16
+    ensures { λ r. ⌜ r ≡ lowSide (now (keys .entry)) ⌝ }
+{
+    lowest(keys[1], keys[3], keys[5], keys[7])
+}
+
+fn low_corner(keys: &[u16; 8]) -> u16
+    ensures { λ r. ⌜ r ≡ lowCorner (now (keys .entry)) ⌝ }
+{
+    lowest(keys[0], keys[2], keys[4], keys[6])
+}
+
+// The codes of the sides, and of the corners, whose key is `low`.
+fn side_codes(keys: &[u16; 8], low: u16) -> u16
+    ensures { λ r. ⌜ r ≡ sideCodes (now (keys .entry)) low ⌝ }
+    ensures { λ r. ⌜ r ≤ 170 ⌝ }
+{
+    2 * members(low, keys[1], keys[3], keys[5], keys[7])
+}
+
+fn corner_codes(keys: &[u16; 8], low: u16) -> u16
+    ensures { λ r. ⌜ r ≡ cornerCodes (now (keys .entry)) low ⌝ }
+    ensures { λ r. ⌜ r ≤ 85 ⌝ }
+{
+    members(low, keys[0], keys[2], keys[4], keys[6])
+}
+
+// From a cell's key and the keys around it, the sum of the codes of the largest weighted drop; 0 where none is above 0.
+pub fn steepest_of(g: Grid, own: u16, keys: &[u16; 8]) -> u16
     ensures { λ r. ⌜ r ≡ steepestIn g own (now (keys .entry)) ⌝ }
-    ensures { λ r. ⌜ r < 256 ⌝ }
 {
-    let mut best = Steepest {
-        drop: 0,
-        distance: 1,
-        sum: 0,
-    };
-    let mut p: usize = 0;
-    while p < 8 {
-        best = weigh(best, fall(own, keys[p]), squared_distance(g, p), p);
-        p += 1;
-    }
-    pick(best.drop == 0, 0, best.sum)
+    let side = low_side(keys);
+    let corner = low_corner(keys);
+    let sides = side_codes(keys, side);
+    let corners = corner_codes(keys, corner);
+    larger(g, fall(own, side), sides, fall(own, corner), corners)
 }
 
-// "If the largest weighted drop is above 0, add the codes of all neighbours that have it"; 0 where it is not.
-pub fn steepest_sum(g: Grid, elevations: &[i16], cell: usize) -> u32
-    requires { ⌜ size g < 2 ^ 24 ⌝ }
-    requires { ⌜ cell < size g ⌝ }
-    ensures { λ r. ⌜ r ≡ steepestSum g (now (elevations .entry)) cell ⌝ }
-    ensures { λ r. ⌜ r < 256 ⌝ }
+// The same, but 256 where the cell or one around it is void: no drop decides there.
+fn marked_of(g: Grid, own: u16, keys: &[u16; 8]) -> u16
+    ensures { λ r. ⌜ r ≡ markedIn g own (now (keys .entry)) ⌝ }
 {
-    let keys = cells::around(g, elevations, cell);
-    steepest_of(g, cells::key_at(elevations, cell), &keys)
+    let low = lower(lower(low_corner(keys), low_side(keys)), own);
+    let sum = steepest_of(g, own, keys);
+    pick(low == 0, 256, sum)
 }
 
-// The code of a data cell of level 0, the outlet's or the choice among the largest drops, from one reading of the cells around it; 0 for a data
-// cell without a level yet.
-pub fn first_code(g: Grid, elevations: &[i16], table: &[u8; 256], cell: usize) -> u8
+// The keys around a cell within the border, which lie at fixed distances.
+fn keys_of(g: Grid, elevations: &[i16], cell: usize) -> [u16; 8]
     requires { ⌜ length (now elevations) ≡ size g ⌝ }
     requires { ⌜ size g < 2 ^ 24 ⌝ }
     requires { ⌜ cell < size g ⌝ }
-    requires { ⌜ now table ≡ choices' ⌝ }
-    ensures { λ r. ⌜ (isData (now (elevations .entry)) cell ≡ true → r ≡ firstCode g (now (elevations .entry)) cell) ⌝ }
+    requires { ⌜ Inner g (cell / g .cols) (cell % g .cols) ⌝ }
+    ensures { λ r. ⌜ r ≡ keysOf g (now (elevations .entry)) cell ⌝ }
+    ensures { λ r. ⌜ KnownTo g (now (elevations .entry)) cell 8 ⌝ }
 {
-    let keys = cells::around(g, elevations, cell);
-    let out = cells::outlet_of(&keys);
-    if out != 0 {
-        return out;
+    let mut keys = [0u16; 8];
+    let mut p: usize = 0;
+    while p < 8 {
+        keys[p] = cells::short_key(elevations[cells::beside(g, cell, p)]);
+        p += 1;
     }
-    choose(
-        table,
-        steepest_of(g, cells::key_at(elevations, cell), &keys) as usize,
-    )
+    keys
+}
+
+// For a cell within the border: "If the largest weighted drop is above 0, add the codes of all neighbours that have it", 0 where it is not;
+// 256 for an outlet and for a void.
+fn inner_sum(g: Grid, elevations: &[i16], cell: usize) -> u16
+    requires { ⌜ length (now elevations) ≡ size g ⌝ }
+    requires { ⌜ size g < 2 ^ 24 ⌝ }
+    requires { ⌜ cell < size g ⌝ }
+    requires { ⌜ Inner g (cell / g .cols) (cell % g .cols) ⌝ }
+    ensures { λ r. ⌜ r ≡ innerSum g (now (elevations .entry)) cell ⌝ }
+{
+    let keys = keys_of(g, elevations, cell);
+    marked_of(g, cells::short_key(elevations[cell]), &keys)
+}
+
+// The sums of the cells from `from` to `to`, a part of one row within the border.
+pub fn row_sums(g: Grid, elevations: &[i16], from: usize, to: usize, work: &mut [u32])
+    requires { ⌜ length (now elevations) ≡ size g ⌝ }
+    requires { ⌜ size g < 2 ^ 24 ⌝ }
+    requires { ⌜ to ≤ size g ⌝ }
+    requires { ⌜ to ≤ length (now work) ⌝ }
+    requires { ⌜ ((c : ℕ) → from ≤ c → c < to → Inner g (c / g .cols) (c % g .cols)) ⌝ }
+    ensures { λ r. ⌜ ((c : ℕ) → from ≤ c → c < to → getD (now (work .exit)) c 0 ≡ innerSum g (now (elevations .entry)) c) ⌝ }
+    ensures { λ r. ⌜ ((c : ℕ) → c < from → getD (now (work .exit)) c 0 ≡ getD (now (work .entry)) c 0) ⌝ }
+{
+    let mut cell = from;
+    while cell < to {
+        work[cell] = inner_sum(g, elevations, cell) as u32;
+        cell += 1;
+    }
 }

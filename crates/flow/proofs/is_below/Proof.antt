@@ -1,75 +1,86 @@
 use mathlib.Core.Path.{sym}
 use mathlib.Core.Bool.{true≢false}
-use Prim.Native.Nat.{_-_}
 use native.Mathlib.Omega.{arith}
 use lib.ListN.{getD}
-use borrow.Author.Needs.{needs}
-use borrow.Author.Tests.{ltb-true, ltb-false, eqb-true, eqb-false}
-use Rattle.levels.proofs.Keyed.{differs, agrees, key-below}
-use Rattle.flow.proofs.Flats.{no-word, below-first, not-below-first, below-more, not-below-more}
+use borrow.Author.Needs.{needs, sfits-of}
+use borrow.Author.Tests.{ltb-true, ltb-false}
+use Rattle.grid.specs.Sheet.{at}
+use Rattle.cells.proofs.Keys.{Known}
+use Rattle.levels.proofs.Keyed.{key-read, differs, agrees}
+use Rattle.flow.proofs.Flats.{below, below-range}
 use Rattle.flow.proofs.is_below.Statement.{statement}
 use Rattle.flow.proofs.is_below.Tie as tie
 
-key-at-requires : tie.Need-key-at-requires
-key-at-requires c κs = search needs
+abbrev start : tie.After-key → tie.Start
+start c = c .before .before .before
+
+own : (c : tie.After-key) → Known (c .key .result) (at (start c .args .elevations .now) (start c .args .m))
+own c =
+    let s = start c in
+    let fits = sfits-of (c .before .key-arg .given) in
+    key-read (s .args .elevations .now) (s .args .m) (c .key .result) (s .pre .1 .0) fits (c .key .ensures)
+
+mul-key : tie.Need-mul-key
+mul-key c = search needs
+
+shared-slice-copy-out-key : tie.Need-shared-slice-copy-out-key
+shared-slice-copy-out-key c = search needs
+
+key-requires : tie.Need-key-requires
+key-requires c κs = search needs
+
+mul-near : tie.Need-mul-near
+mul-near c = search needs
+
+shared-slice-read-near : tie.Need-shared-slice-read-near
+shared-slice-read-near c = search needs
 
 returns : tie.Need-returns
 returns c =
-    let key = c .before .key-at in
-    ((λ q. absurd (true≢false (sym q))), λ q h a b. differs (c .before .before .before .args .k) (key .result) (key .ensures .0) (c .if1 .taken) h)
-
-mul-near : tie.Need-mul-near
-mul-near c =
-    let s = c .before .before .before in
-    let key = c .before .key-at in
-    let h = key-below (s .args .elevations .now) (s .args .m) (s .args .k) (key .result) (key .ensures .0) (c .if1 .left) (s .pre .1 .0) in
-    omega arith
-
-shared-slice-read-near : tie.Need-shared-slice-read-near
-shared-slice-read-near c =
-    let s = c .before .before .before .before in
-    let key = c .before .before .key-at in
-    let h = key-below (s .args .elevations .now) (s .args .m) (s .args .k) (key .result) (key .ensures .0) (c .before .if1 .left) (s .pre .1 .0) in
-    omega arith
+    let key = c .before .before in
+    let k = start key .args .k in
+    ((λ q. absurd (true≢false (sym q))), λ q h a b. differs k (key .key .result) (own key .0) (c .if1 .taken) h)
 
 returns-2 : tie.Need-returns-2
 returns-2 c =
-    let s = c .before .before .before .before .before in
-    ((λ q. absurd (true≢false (sym q))), λ q h. no-word (getD (s .args .work .now) (s .args .m) 0) (s .args .word) (s .pre .1 .1) (c .if2 .taken))
+    let s = start (c .before .before .before) in
+    let a = s .args in
+    let near = getD (a .work .now) (a .m) 0 in
+    let p = s .pre .1 .1 .1 in (
+      (λ q. absurd (true≢false (sym q))),
+      λ q h u v.
+          let w = below-range near (a .low) (a .word) (p .0) (p .1 .0) (p .1 .1) u v in
+          let l = w .0 in
+          let t = c .if2 .taken in
+          omega arith,
+    )
 
 returns-3 : tie.Need-returns-3
 returns-3 c =
-    let same = c .before .before .before in
-    let key = same .before .key-at in
-    let s = same .before .before .before in
-    let near = getD (s .args .work .now) (s .args .m) 0 in
-    let f = c .before .if2 .left in (
-      (λ q. (agrees (s .args .k) (key .result) (key .ensures .0) (key .ensures .1 .1 .0) (same .if1 .left), below-first near (s .args .word) (s .pre .1 .1) (c .if3 .taken) (omega arith) (ltb-true near 256 q))),
-      λ q h a b. not-below-first near (s .args .word) (s .pre .1 .1) (c .if3 .taken) (ltb-false near 256 q) a,
-    )
-
-sub-result : tie.Need-sub-result
-sub-result c = search needs
-
-returns-4 : tie.Need-returns-4
-returns-4 c =
-    let same = c .before .before .before in
-    let key = same .before .key-at in
-    let s = same .before .before .before in
-    let near = getD (s .args .work .now) (s .args .m) 0 in (
-      (λ q. (agrees (s .args .k) (key .result) (key .ensures .0) (key .ensures .1 .1 .0) (same .if1 .left), below-more near (s .args .word) (s .pre .1 .1) (c .if3 .left) (eqb-true near (s .args .word - 1) q))),
-      λ q h a b. not-below-more near (s .args .word) (s .pre .1 .1) (c .if3 .left) (eqb-false near (s .args .word - 1) q) a,
+    let same = c .before in
+    let key = same .before .before in
+    let s = start key in
+    let a = s .args in
+    let near = getD (a .work .now) (a .m) 0 in
+    let p = s .pre .1 .1 .1 in
+    let height = agrees (a .k) (key .key .result) (own key .0) (own key .1 .1 .0) (same .if1 .left) in (
+      (λ q. (height, below near (a .low) (a .word) (p .0) (p .1 .0) (p .1 .1) (c .if2 .left) (ltb-true near (a .word) q))),
+      λ q h u v.
+          let w = below-range near (a .low) (a .word) (p .0) (p .1 .0) (p .1 .1) u v in
+          let l = w .1 in
+          let t = ltb-false near (a .word) q in
+          omega arith,
     )
 
 pub is-below-spec : {M : Type 1} → statement M
 is-below-spec =
     tie.close
     (tie.spec
-    key-at-requires
-    returns
+    mul-key
+    shared-slice-copy-out-key
+    key-requires
     mul-near
     shared-slice-read-near
+    returns
     returns-2
-    returns-3
-    sub-result
-    returns-4)
+    returns-3)

@@ -9,14 +9,17 @@ use Rattle.levels.proofs.empty_queue.Statement.{statement}
 use Rattle.levels.proofs.empty_queue.Tie as tie
 
 abbrev Inv-loop : tie.InvT-loop
-Inv-loop g elevations half tail work₀ head₀ end₀ work head end = (length work ≡ length work₀) × Searching g elevations half work (size g) head end
+Inv-loop g elevations half tail work₀ head₀ end₀ work head end =
+    (length work ≡ length work₀) × Searching g elevations half work (size g) head end
 
 abbrev μ-loop : tie.MeasureT-loop
 μ-loop g elevations half tail work₀ head₀ end₀ work head end = size g - head
 
 -- the queue is never longer than there are cells
 most : (a : tie.At-loop Inv-loop μ-loop) → a .loop .end ≤ size (a .before .before .args .g)
-most a = let s = a .before .before in searching-most (s .args .g) (s .args .elevations .now) (s .pre .0) (s .args .half) (a .loop .work) (a .loop .inv .1)
+most a =
+    let s = a .before .before in
+    searching-most (s .args .g) (s .args .elevations .now) (s .pre .0) (s .args .half) (a .loop .work) (a .loop .inv .1)
 
 loop-holds : tie.Need-loop-holds Inv-loop μ-loop
 loop-holds c = (refl, c .before .pre .1 .1 .1 .1)

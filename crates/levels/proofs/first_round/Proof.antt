@@ -9,7 +9,8 @@ use Rattle.levels.proofs.first_round.Statement.{statement}
 use Rattle.levels.proofs.first_round.Tie as tie
 
 abbrev Inv-loop : tie.InvT-loop
-Inv-loop g elevations half work₀ cells tail₀ cell₀ work tail cell = (cell ≤ cells) × (length work ≡ length work₀) × Joining g elevations half work cell tail
+Inv-loop g elevations half work₀ cells tail₀ cell₀ work tail cell =
+    (cell ≤ cells) × (length work ≡ length work₀) × Joining g elevations half work cell tail
 
 abbrev μ-loop : tie.MeasureT-loop
 μ-loop g elevations half work₀ cells tail₀ cell₀ work tail cell = cells - cell

@@ -1,10 +1,32 @@
-use mathlib.Core.Path.{refl}
+use mathlib.Core.Path.{_≡_, refl}
+use mathlib.Core.Bool.{true}
+use Prim.Native.Nat.{_<_}
 use native.Mathlib.Omega.{arith}
-use borrow.Author.Needs.{needs}
-use Rattle.levels.proofs.Keyed.{agrees, height-data, zero-no-data}
-use Rattle.levels.proofs.Joined.{joining-has, joining-void, joining-alone, joining-room, joining-next}
+use borrow.Author.Needs.{needs, sfits-of}
+use Rattle.grid.specs.Sheet.{at, isData}
+use Rattle.cells.specs.Keys.{levelOf}
+use Rattle.cells.proofs.Keys.{Known}
+use Rattle.levels.proofs.Keyed.{key-read, agrees, height-data, zero-no-data}
+use Rattle.levels.proofs.Joined.{joining-has, joining-void, joining-alone, joining-within, joining-room, joining-next}
 use Rattle.levels.proofs.join.Statement.{statement}
 use Rattle.levels.proofs.join.Tie as tie
+
+abbrev start : tie.After-key → tie.Start
+start c = c .before .before .before .before .before
+
+own : (c : tie.After-key) → Known (c .key .result) (at (start c .args .elevations .now) (start c .args .cell))
+own c =
+    let s = start c in
+    let len = s .pre .0 in
+    let on = s .pre .1 .1 .1 .1 .0 in
+    let fits = sfits-of (c .before .key-arg .given) in
+    key-read (s .args .elevations .now) (s .args .cell) (c .key .result) (omega arith) fits (c .key .ensures)
+
+height : (c : tie.After-key) → at (start c .args .elevations .now) (start c .args .cell) ≡ levelOf (c .key .result)
+height c = agrees (c .key .result) (c .key .result) (own c .0) (own c .1 .1 .0) refl
+
+is-data : (c : tie.After-key) → 0 < c .key .result → isData (start c .args .elevations .now) (start c .args .cell) ≡ true
+is-data c some = height-data (start c .args .elevations .now) (start c .args .cell) (c .key .result) (height c) some
 
 mul-if1 : tie.Need-mul-if1
 mul-if1 c = search needs
@@ -15,41 +37,64 @@ slice-read-if1 c = search needs
 returns : tie.Need-returns
 returns c =
     let s = c .before .before .before in
-    joining-has (s .args .g) (s .args .elevations .now) (s .pre .0) (s .args .half) (s .args .work .now) (s .args .cell) (s .args .tail) (s .pre .1 .1 .1 .1 .0) (s .pre .1 .1 .1 .1 .1) (c .if1 .taken)
+    let a = s .args in
+    joining-has (a .g) (a .elevations .now) (s .pre .0) (a .half) (a .work .now) (a .cell) (a .tail) (s .pre .1 .1 .1 .1 .0)
+    (s .pre .1 .1 .1 .1 .1) (c .if1 .taken)
 
-key-at-requires : tie.Need-key-at-requires
-key-at-requires c κs = search needs
+mul-key : tie.Need-mul-key
+mul-key c = search needs
+
+shared-slice-copy-out-key : tie.Need-shared-slice-copy-out-key
+shared-slice-copy-out-key c = search needs
+
+key-requires : tie.Need-key-requires
+key-requires c κs = search needs
 
 returns-2 : tie.Need-returns-2
 returns-2 c =
-    let s = c .before .before .before .before .before in
-    let key = c .before .key-at in
-    joining-void (s .args .g) (s .args .elevations .now) (s .pre .0) (s .args .half) (s .args .work .now) (s .args .cell) (s .args .tail) (s .pre .1 .1 .1 .1 .0) (s .pre .1 .1 .1 .1 .1)
-    (zero-no-data (s .args .elevations .now) (s .args .cell) (key .result) (key .ensures .0) (key .ensures .1 .1 .0) (c .if2 .taken))
+    let key = c .before in
+    let s = start key in
+    let a = s .args in
+    joining-void (a .g) (a .elevations .now) (s .pre .0) (a .half) (a .work .now) (a .cell) (a .tail) (s .pre .1 .1 .1 .1 .0)
+    (s .pre .1 .1 .1 .1 .1)
+    (zero-no-data (a .elevations .now) (a .cell) (key .key .result) (own key .0) (own key .1 .1 .0) (c .if2 .taken))
 
 beside-level-zero-requires : tie.Need-beside-level-zero-requires
 beside-level-zero-requires c κs =
-    let s = c .before .before .before .before .before .before in
-    let key = c .before .before .key-at in
-    let some = c .before .if2 .left in
-    (s .pre .0, (s .pre .1 .0, (omega arith, (s .pre .1 .1 .1 .1 .0, (agrees (key .result) (key .result) (key .ensures .0) (key .ensures .1 .1 .0) refl, omega arith)))))
+    let key = c .before .before in
+    let s = start key in
+    let a = s .args in
+    let on = s .pre .1 .1 .1 .1 .0 in
+    let left = c .before .if2 .left in
+    let some : 0 < key .key .result = omega arith in
+    let inner =
+    joining-within (a .g) (a .elevations .now) (s .pre .0) (a .half) (a .work .now) (a .cell) (a .tail) on (s .pre .1 .1 .1 .1 .1)
+    (key .before .before .if1 .left) (is-data key some) in
+    (s .pre .0, (s .pre .1 .0, (omega arith, (on, (inner, (height key, some))))))
 
 same-length : tie.Need-same-length
 same-length c = search needs
 
 returns-3 : tie.Need-returns-3
 returns-3 c =
-    let s = c .before .before .before .before .before .before .before .before in
-    joining-alone (s .args .g) (s .args .elevations .now) (s .pre .0) (s .args .half) (s .args .work .now) (s .args .cell) (s .args .tail) (s .pre .1 .1 .1 .1 .0) (s .pre .1 .1 .1 .1 .1) (c .before .beside-level-zero .ensures .1 (c .if3 .taken))
+    let found = c .before in
+    let s = start (found .before .before .before) in
+    let a = s .args in
+    joining-alone (a .g) (a .elevations .now) (s .pre .0) (a .half) (a .work .now) (a .cell) (a .tail) (s .pre .1 .1 .1 .1 .0)
+    (s .pre .1 .1 .1 .1 .1) (found .beside-level-zero .ensures .1 (c .if3 .taken))
 
 mark-requires : tie.Need-mark-requires
 mark-requires c κs =
-    let s = c .before .before .before .before .before .before .before .before .before in
+    let key = c .before .before .before .before .before in
+    let s = start key in
+    let a = s .args in
     let on = s .pre .1 .1 .1 .1 .0 in
     let small = s .pre .1 .0 in
     let under = s .pre .1 .1 .0 in
     let fits = s .pre .1 .1 .1 .0 in
-    let room = joining-room (s .args .g) (s .args .elevations .now) (s .pre .0) (s .args .half) (s .args .work .now) (s .args .cell) (s .args .tail) on (s .pre .1 .1 .1 .1 .1) (c .before .before .before .before .before .before .if1 .left) in
+    let room =
+    joining-room (a .g) (a .elevations .now) (s .pre .0) (a .half) (a .work .now) (a .cell) (a .tail) on (s .pre .1 .1 .1 .1 .1)
+    (key .before .before .if1 .left) in
     (omega arith, (omega arith, omega arith))
 
 same-length-2 : tie.Need-same-length-2
@@ -58,16 +103,16 @@ same-length-2 c = search needs
 returns-4 : tie.Need-returns-4
 returns-4 c =
     let marked = c .before .before in
+    let least = marked .before .before .if3 .left in
     let found = marked .before .before .before in
-    let other = found .before .before in
-    let key = other .before .key-at in
-    let blank = other .before .before in
-    let s = blank .before .before .before in
-    let e = s .args .elevations .now in
-    let z = other .if2 .left in
-    let p = found .beside-level-zero .ensures .0 (marked .before .before .if3 .left) in
-    joining-next (s .args .g) e (s .pre .0) (s .args .half) (s .args .work .now) (s .args .cell) (s .args .tail) (s .pre .1 .1 .1 .1 .0) (s .pre .1 .1 .1 .1 .1) (s .pre .1 .1 .0) (s .pre .1 .1 .1 .0) (blank .if1 .left)
-    (height-data e (s .args .cell) (key .result) (agrees (key .result) (key .result) (key .ensures .0) (key .ensures .1 .1 .0) refl) (omega arith)) (found .beside-level-zero .result) (marked .before .before .if3 .left) (p .0) (p .1) (marked .mark .ensures .0) (marked .mark .ensures .1)
+    let key = found .before .before .before in
+    let left = found .before .before .if2 .left in
+    let s = start key in
+    let a = s .args in
+    let p = found .beside-level-zero .ensures .0 least in
+    joining-next (a .g) (a .elevations .now) (s .pre .0) (a .half) (a .work .now) (a .cell) (a .tail) (s .pre .1 .1 .1 .1 .0)
+    (s .pre .1 .1 .1 .1 .1) (s .pre .1 .1 .0) (s .pre .1 .1 .1 .0) (key .before .before .if1 .left) (is-data key (omega arith))
+    (found .beside-level-zero .result) least (p .0) (p .1) (marked .mark .ensures .0) (marked .mark .ensures .1)
 
 pub join-spec : {M : Type 1} → statement M
 join-spec =
@@ -76,7 +121,9 @@ join-spec =
     mul-if1
     slice-read-if1
     returns
-    key-at-requires
+    mul-key
+    shared-slice-copy-out-key
+    key-requires
     returns-2
     beside-level-zero-requires
     same-length

@@ -26,7 +26,8 @@ same-length c = search needs
 returns : tie.Need-returns
 returns c =
     let s = c .before .before .before .before .before .before .before .before .before in
-    levelled (s .args .g) (s .args .elevations .now) (s .pre .0) (length (s .args .work .now) / 2) _ (c .before .before .empty-queue .ensures) (omega arith) (omega arith)
+    levelled (s .args .g) (s .args .elevations .now) (s .pre .0) (length (s .args .work .now) / 2) _
+    (c .before .before .empty-queue .ensures) (omega arith) (omega arith)
 
 pub levels-spec : {M : Type 1} → statement M
 levels-spec = tie.close (tie.spec first-round-requires empty-queue-requires same-length returns)

@@ -33,13 +33,15 @@ same-length : tie.Need-same-length
 same-length c =
     let a = c .before .before .before .before .before .args in
     let stored = set (a .work .now) (a .m) (a .word) in
-    same-len-mid (a .half) (length stored - a .half) stored (c .before .before .push .last .0) (c .before .before .push .kept .0) ∙ length-set (a .work .now) (a .m) (a .word)
+    same-len-mid (a .half) (length stored - a .half) stored (c .before .before .push .last .0) (c .before .before .push .kept .0)
+    ∙ length-set (a .work .now) (a .m) (a .word)
 
 returns : tie.Need-returns
 returns c =
     let a = c .before .before .before .before .before .args in
     let p = c .before .before .push in
-    (p .ensures .0, tail-set (a .half) (a .tail) (set (a .work .now) (a .m) (a .word)) (p .last .0) (a .m) (rw length-set (omega arith)) (p .ensures .1))
+    let stored = set (a .work .now) (a .m) (a .word) in
+    (p .ensures .0, tail-set (a .half) (a .tail) stored (p .last .0) (a .m) (rw length-set (omega arith)) (p .ensures .1))
 
 pub mark-spec : {M : Type 1} → statement M
 mark-spec =

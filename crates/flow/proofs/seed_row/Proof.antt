@@ -1,0 +1,121 @@
+use mathlib.Core.Path.{_∙_}
+use Prim.Native.Nat.{_+_, _*_, _≤_}
+use native.Mathlib.Omega.{arith}
+use Rattle.grid.specs.Sheet.{size}
+use Rattle.flow.proofs.Borders.{row-on, next-row, within-row, turn-border}
+use borrow.Author.Needs.{needs}
+use Rattle.flow.proofs.seed_row.Statement.{statement}
+use Rattle.flow.proofs.seed_row.Tie as tie
+
+-- the row after this one lies on the sheet
+room : (s : tie.Start) → s .args .row * s .args .g .cols + s .args .g .cols + s .args .g .cols ≤ size (s .args .g)
+room s = row-on (s .args .g) (s .args .row) (s .pre .1 .1 .1 .1 .0 .1)
+
+mul-from : tie.Need-mul-from
+mul-from c =
+    let s = c .before in
+    let small = s .pre .1 .0 in
+    omega (arith, room s)
+
+add-from : tie.Need-add-from
+add-from c =
+    let s = c .before in
+    let small = s .pre .1 .0 in
+    omega (arith, room s)
+
+sub-to : tie.Need-sub-to
+sub-to c = search needs
+
+add-to : tie.Need-add-to
+add-to c =
+    let s = c .before in
+    let small = s .pre .1 .0 in
+    omega (arith, room s)
+
+row-sums-requires : tie.Need-row-sums-requires
+row-sums-requires c κs =
+    let s = c .before .before in
+    let g = s .args .g in
+    let place = s .pre .1 .1 .1 .1 .0 in
+    let wide = place .2 in
+    let long = s .pre .1 .1 .0 in (
+      s .pre .0,
+      (
+        s .pre .1 .0,
+        (omega (arith, room s), (omega (arith, room s), λ i h k. within-row g (s .args .row) (place .0) (place .1) i h (omega arith))),
+      ),
+    )
+
+inner-words-requires : tie.Need-inner-words-requires
+inner-words-requires c κs =
+    let sums = c .before .before .before .row-sums in
+    let s = c .before .before .before .before .before .before in
+    let wide = s .pre .1 .1 .1 .1 .0 .2 in
+    let long = s .pre .1 .1 .0 in
+    let same = sums .kept .1 .1 .1 .1 .0 in (
+      s .pre .0,
+      (
+        s .pre .1 .0,
+        (
+          omega arith,
+          (
+            s .pre .1 .1 .1 .0,
+            ((omega arith, omega (arith, room s)), ((λ i h. sums .ensures .1 i h ∙ s .pre .1 .1 .1 .1 .1 i h), sums .ensures .0)),
+          ),
+        ),
+      ),
+    )
+
+add-outer-words : tie.Need-add-outer-words
+add-outer-words c =
+    let s = c .before .before .before .before .before .before .before .before .before in
+    let small = s .pre .1 .0 in
+    omega (arith, room s)
+
+outer-words-requires : tie.Need-outer-words-requires
+outer-words-requires c κs =
+    let inner = c .before .before .before .inner-words in
+    let summed = c .before .before .before .before .before .before .before in
+    let s = summed .before .before .before in
+    let g = s .args .g in
+    let wide = s .pre .1 .1 .1 .1 .0 .2 in
+    let long = s .pre .1 .1 .0 in
+    let same = inner .kept .1 .1 .1 .1 .1 .0 in
+    let same₀ = summed .row-sums .kept .1 .1 .1 .1 .0 in (
+      s .pre .0,
+      (
+        s .pre .1 .0,
+        (
+          omega arith,
+          (
+            (omega arith, omega (arith, room s)),
+            ((λ i h k. turn-border g (omega arith) (s .args .row) i (omega arith) (omega arith)), inner .ensures),
+          ),
+        ),
+      ),
+    )
+
+same-length : tie.Need-same-length
+same-length c = search needs
+
+returns : tie.Need-returns
+returns c =
+    let outer = c .before .before .outer-words in
+    let s = c .before .before .before .before .before .before .before .before .before .before .before .before .before in
+    let wide = s .pre .1 .1 .1 .1 .0 .2 in
+    λ i h. outer .ensures i (omega (arith, next-row (s .args .g) (s .args .row)))
+
+pub seed-row-spec : {M : Type 1} → statement M
+seed-row-spec =
+    tie.close
+    (tie.spec
+    mul-from
+    add-from
+    sub-to
+    add-to
+    row-sums-requires
+    inner-words-requires
+    add-outer-words
+    outer-words-requires
+    same-length
+    returns)
