@@ -1,8 +1,8 @@
-// The leaves of the library, from "The sheet" of document 01: the direction type, the table of steps, the neighbour of a cell at a position,
-// the key of an elevation and back, the keys around a cell, and the code of an outlet. Signed numbers are touched here and nowhere above: a key
-// is an elevation as a number from 0 on, 0 for the void, and its order is the elevation's (proofs/Keys). A step off the sheet leads to the
-// cell rows * cols, which reads as void, so that border and void are one test. The tables are proved entry by entry; the rest is arithmetic
-// on rows and columns by the laws of the eight steps.
+// The leaves of the library, from "The sheet" of document 01: the direction type, the table of steps, the neighbour of a cell at a
+// position, the key of an elevation and back, the keys around a cell, and the code of an outlet. Signed numbers are touched here and
+// nowhere above: a key is an elevation as a number from 0 on, 0 for the void, and its order is the elevation's (proofs/Keys). A step off
+// the sheet leads to the cell rows * cols, which reads as void, so that border and void are one test. The tables are proved entry by
+// entry; the rest is arithmetic on rows and columns by the laws of the eight steps.
 use grid::Grid;
 ghost use mathlib.Core.Path.{_≡_};
 ghost use mathlib.Core.Bool.{Bool, true, false, cond};
@@ -199,8 +199,8 @@ fn right(p: usize) -> usize
     (16490 >> 2 * p) % 4
 }
 
-// The neighbour at the position `p` of a cell within the border: no step leaves the sheet, and the neighbours lie at fixed distances in the
-// numbering.
+// The neighbour at the position `p` of a cell within the border: no step leaves the sheet, and the neighbours lie at fixed distances in
+// the numbering.
 pub fn beside(g: Grid, cell: usize, p: usize) -> usize
     requires { ⌜ size g < 2 ^ 24 ⌝ }
     requires { ⌜ cell < size g ⌝ }
@@ -269,8 +269,8 @@ fn in_order(i: usize) -> usize
     OUTLET_ORDER[i]
 }
 
-// From the raised keys around a data cell, the code of an outlet, "the first of 32, 2, 128, 8, 1, 4, 16, 64 that points off the sheet or at a
-// void"; 0 for no outlet. Sides that close, and voids that are no outside, will change this function and `around` alone.
+// From the raised keys around a data cell, the code of an outlet, "the first of 32, 2, 128, 8, 1, 4, 16, 64 that points off the sheet or
+// at a void"; 0 for no outlet. Sides that close, and voids that are no outside, will change this function and `around` alone.
 pub fn outlet_of(keys: &[u32; 8]) -> u8
     ensures { λ r. ⌜ r ≡ outletIn (now (keys .entry)) ⌝ }
 {
@@ -290,7 +290,8 @@ pub fn outlet_code(g: Grid, elevations: &[i16], cell: usize) -> u8
     requires { ⌜ length (now elevations) ≡ size g ⌝ }
     requires { ⌜ size g < 2 ^ 24 ⌝ }
     requires { ⌜ cell < size g ⌝ }
-    ensures { λ r. ⌜ (isData (now (elevations .entry)) cell ≡ true → r ≡ cond (isOutlet g (now (elevations .entry)) cell) (outletCode g (now (elevations .entry)) cell) 0) ⌝ }
+    ensures { λ r. ⌜ (isData (now (elevations .entry)) cell ≡ true →
+        r ≡ cond (isOutlet g (now (elevations .entry)) cell) (outletCode g (now (elevations .entry)) cell) 0) ⌝ }
 {
     let keys = around(g, elevations, cell);
     outlet_of(&keys)

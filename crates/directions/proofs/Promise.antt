@@ -23,20 +23,26 @@ unfolding firstUnlevelled
 unlevelled-≤ g e = first-≤ (size g) (λ c. isData e c && eqb (getD (levels g e) c 0) 0)
 
 module _ (g : Grid) (e : List ℤ) (c₀ w₀ : List ℕ) (r : Answer)
-    (asked : r ≡ askSheets g (length e ∷ length e ∷ []) (length c₀ ∷ length c₀ ∷ length c₀ ∷ length c₀ ∷ []) (askWork g (length w₀) accepted)) where
+    (asked : r ≡ askSheets g (length e ∷ length e ∷ []) (length c₀ ∷ length c₀ ∷ length c₀ ∷ length c₀ ∷ [])
+    (askWork g (length w₀) accepted)) where
   -- what is asked after 9
   later : Answer
   later = askCell 10 g (firstUnlevelled g e) accepted
 
-  call : askSheets g (length e ∷ length e ∷ []) (length c₀ ∷ length c₀ ∷ length c₀ ∷ length c₀ ∷ []) (askWork g (length w₀) later) ≡ directionsCheck g e (length c₀) (length w₀)
+  call : askSheets g (length e ∷ length e ∷ []) (length c₀ ∷ length c₀ ∷ length c₀ ∷ length c₀ ∷ []) (askWork g (length w₀) later)
+      ≡ directionsCheck g e (length c₀) (length w₀)
   unfolding directionsCheck later
   call = one-input g (length e) (length c₀) (askWork g (length w₀) later)
 
   no-of : (r .number ≡ 0 → ⊥) → Refused g (length e ∷ length e ∷ []) (length c₀ ∷ length c₀ ∷ length c₀ ∷ length c₀ ∷ []) (length w₀)
-  no-of n = refused g (length e ∷ length e ∷ []) (length c₀ ∷ length c₀ ∷ length c₀ ∷ length c₀ ∷ []) (length w₀) (λ z. n (ap (λ (a : Answer). a .number) asked ∙ z))
+  no-of n =
+      refused g (length e ∷ length e ∷ []) (length c₀ ∷ length c₀ ∷ length c₀ ∷ length c₀ ∷ []) (length w₀)
+      (λ z. n (ap (λ (a : Answer). a .number) asked ∙ z))
 
   yes-of : r .number ≡ 0 → Passed g (length e ∷ length e ∷ []) (length c₀ ∷ length c₀ ∷ length c₀ ∷ length c₀ ∷ []) (length w₀)
-  yes-of z = passed g (length e ∷ length e ∷ []) (length c₀ ∷ length c₀ ∷ length c₀ ∷ length c₀ ∷ []) (length w₀) (ap (λ (a : Answer). a .number) (sym asked) ∙ z)
+  yes-of z =
+      passed g (length e ∷ length e ∷ []) (length c₀ ∷ length c₀ ∷ length c₀ ∷ length c₀ ∷ []) (length w₀)
+      (ap (λ (a : Answer). a .number) (sym asked) ∙ z)
 
   pub refused-promise : (r .number ≡ 0 → ⊥) → DirectionsPromise g e c₀ c₀ w₀ w₀ r
   refused-promise n =
@@ -49,18 +55,28 @@ module _ (g : Grid) (e : List ℤ) (c₀ w₀ : List ℕ) (r : Answer)
   pub accepted-sizes : r .number ≡ 0 → (size g < 2 ^ 24) × (length e ≡ size g) × (length c₀ ≡ size g) × (4 * size g ≤ length w₀)
   accepted-sizes z =
       let p = yes-of z in
-      let c = p .fits .cells in
-      (omega arith, have-first (size g) (length e) (length e ∷ []) (p .inputs-have), have-first (size g) (length c₀) (length c₀ ∷ length c₀ ∷ length c₀ ∷ []) (p .results-have), p .room)
+      let c = p .fits .cells in (
+        omega arith,
+        have-first (size g) (length e) (length e ∷ []) (p .inputs-have),
+        have-first (size g) (length c₀) (length c₀ ∷ length c₀ ∷ length c₀ ∷ []) (p .results-have),
+        p .room,
+      )
 
   -- 10: some data cell has no level
-  module _ (z : r .number ≡ 0) (first : ℕ) (place : first ≡ firstUnlevelled g e) (c₁ w₁ : List ℕ) (codes : c₁ ≡ cond (eqb first (size g)) (directions g e) c₀) (same : length w₁ ≡ length w₀) where
+  module _ (z : r .number ≡ 0) (first : ℕ) (place : first ≡ firstUnlevelled g e) (c₁ w₁ : List ℕ)
+      (codes : c₁ ≡ cond (eqb first (size g)) (directions g e) c₀) (same : length w₁ ≡ length w₀) where
     pub lacking-promise : first < length e → DirectionsPromise g e c₀ c₁ w₀ w₁ (refusal 10 first)
     unfolding later
     lacking-promise h =
         let s = accepted-sizes z .1 in
         let other : first ≡ size g → ⊥ = (λ q. omega arith) in
         record {
-          answer = ap (refusal 10) place ∙ sym (cond-false accepted (refusal 10 (firstUnlevelled g e)) (ne-eqb (firstUnlevelled g e) (size g) (λ q. other (place ∙ q)))) ∙ sym (yes-of z .then later) ∙ call;
+          answer =
+              ap (refusal 10) place
+              ∙ sym (cond-false accepted (refusal 10 (firstUnlevelled g e))
+              (ne-eqb (firstUnlevelled g e) (size g) (λ q. other (place ∙ q))))
+              ∙ sym (yes-of z .then later)
+              ∙ call;
           result = codes ∙ cond-false (directions g e) c₀ (ne-eqb first (size g) other);
           work = record { same-length = same; untouched = λ o k. let y : ⊥ = omega arith in absurd y };
         }
@@ -74,7 +90,12 @@ module _ (g : Grid) (e : List ℤ) (c₀ w₀ : List ℕ) (r : Answer)
         record {
           answer =
               asked ∙ yes-of z .then accepted
-              ∙ sym (cond-true accepted (refusal 10 (firstUnlevelled g e)) (eq-eqb (firstUnlevelled g e) (size g) (sym place ∙ h))) ∙ sym (yes-of z .then later) ∙ call;
-          result = codes ∙ cond-true (directions g e) c₀ (eq-eqb first (size g) h) ∙ sym (cond-true (directions g e) c₀ (eq-eqb (r .number) 0 z));
+              ∙ sym (cond-true accepted (refusal 10 (firstUnlevelled g e)) (eq-eqb (firstUnlevelled g e) (size g) (sym place ∙ h)))
+              ∙ sym (yes-of z .then later)
+              ∙ call;
+          result =
+              codes
+              ∙ cond-true (directions g e) c₀ (eq-eqb first (size g) h)
+              ∙ sym (cond-true (directions g e) c₀ (eq-eqb (r .number) 0 z));
           work = record { same-length = same; untouched = λ o k. let y : ⊥ = omega arith in absurd y };
         }

@@ -16,7 +16,8 @@ use Rattle.grid.specs.Below.{table, firstBelow}
 use Rattle.grid.specs.Sheet.{size, void, at, isData}
 use Rattle.grid.specs.Outlet.{isOutlet, outletCode}
 use Rattle.grid.specs.Directions.{isLevelZero, hasDescent, isSteepest, steepestSum, choice, directionAt, directions, firstUnlevelled}
-use Rattle.grid_laws.proofs.Tests.{test, true-false, and-true, and-left, and-right, and-false-left, or-left, or-right, cond-true, cond-false}
+use Rattle.grid_laws.proofs.Tests.{test, true-false, and-true, and-left, and-right, and-false-left, or-left, or-right, cond-true}
+use Rattle.grid_laws.proofs.Tests.{cond-false}
 use Rattle.grid_laws.proofs.Tests.{not-of-false, not-is-true, not-false-true}
 use Rattle.grid_laws.proofs.Below.{at-table, first-ext, first-all}
 use Rattle.grid_laws.proofs.Cells.{no-data-void}
@@ -63,9 +64,13 @@ module _ (g : Grid) (e : List ℤ) (c : ℕ) where
   data-word d = ⊎-elim leaves slopes (test (isOutlet g e c))
     where
       leaves : isOutlet g e c ≡ true → cond (isOutlet g e c) (outletCode g e c) (choice (steepestSum g e c)) ≡ firstWord g e c
-      leaves o = cond-true (outletCode g e c) (choice (steepestSum g e c)) o ∙ sym (outlet-direction g e [] c o) ∙ sym (zero-word (outlet-zero d o))
+      leaves o =
+          cond-true (outletCode g e c) (choice (steepestSum g e c)) o
+          ∙ sym (outlet-direction g e [] c o)
+          ∙ sym (zero-word (outlet-zero d o))
 
-      by-drop : isOutlet g e c ≡ false → (hasDescent g e c ≡ true) ⊎ (hasDescent g e c ≡ false) → choice (steepestSum g e c) ≡ firstWord g e c
+      by-drop : isOutlet g e c ≡ false → (hasDescent g e c ≡ true) ⊎ (hasDescent g e c ≡ false) →
+          choice (steepestSum g e c) ≡ firstWord g e c
       by-drop o (inl h) = sym (descent-direction g e [] c d o h) ∙ sym (zero-word (descent-zero d h))
       by-drop o (inr h) = no-choice g e c h ∙ sym (flat-word (not-level-zero g e c o h))
 
@@ -73,7 +78,8 @@ module _ (g : Grid) (e : List ℤ) (c : ℕ) where
       slopes o = cond-false (outletCode g e c) (choice (steepestSum g e c)) o ∙ by-drop o (test (hasDescent g e c))
 
   -- the word of an outlet
-  pub outlet-word : {r : ℕ} → isData e c ≡ true → isOutlet g e c ≡ true → r ≡ cond (isOutlet g e c) (outletCode g e c) 0 → r ≡ firstWord g e c
+  pub outlet-word : {r : ℕ} → isData e c ≡ true → isOutlet g e c ≡ true → r ≡ cond (isOutlet g e c) (outletCode g e c) 0 →
+      r ≡ firstWord g e c
   outlet-word d o q =
       q ∙ cond-true (outletCode g e c) 0 o ∙ sym (cond-true (outletCode g e c) (choice (steepestSum g e c)) o) ∙ data-word d
 
@@ -90,7 +96,9 @@ module _ (g : Grid) (e : List ℤ) (c : ℕ) where
       inner t =
           let d = and-left (isData e c) (not (isOutlet g e c)) t in
           let o = not-is-true (isOutlet g e c) (and-right (isData e c) (not (isOutlet g e c)) t) in
-          ap choice (q ∙ cond-true (steepestSum g e c) 256 t) ∙ sym (cond-false (outletCode g e c) (choice (steepestSum g e c)) o) ∙ data-word d
+          ap choice (q ∙ cond-true (steepestSum g e c) 256 t)
+          ∙ sym (cond-false (outletCode g e c) (choice (steepestSum g e c)) o)
+          ∙ data-word d
 
       outer : (isData e c && not (isOutlet g e c)) ≡ false → choice s ≡ firstWord g e c
       outer t = let z : s ≡ 256 = q ∙ cond-false (steepestSum g e c) 256 t in let y : ⊥ = omega arith in absurd y
@@ -106,8 +114,10 @@ module _ (g : Grid) (e : List ℤ) (c : ℕ) where
           omega arith
 
 -- one more place of a list is as it should be
-pub stored-more : (f : ℕ → ℕ) (l : List ℕ) (i v : ℕ) → i < length l → ((c : ℕ) → c < i → getD l c 0 ≡ f c) → v ≡ f i → (c : ℕ) → c < i + 1 → getD (set l i v) c 0 ≡ f c
-stored-more f l i v h before q c k = ⊎-elim (λ m. getD-set-other l i c v 0 (λ r. omega arith) ∙ before c m) (λ r. rw r (getD-set-same l i v 0 h ∙ q)) (last? i c k)
+pub stored-more : (f : ℕ → ℕ) (l : List ℕ) (i v : ℕ) → i < length l → ((c : ℕ) → c < i → getD l c 0 ≡ f c) → v ≡ f i → (c : ℕ) →
+    c < i + 1 → getD (set l i v) c 0 ≡ f c
+stored-more f l i v h before q c k =
+    ⊎-elim (λ m. getD-set-other l i c v 0 (λ r. omega arith) ∙ before c m) (λ r. rw r (getD-set-same l i v 0 h ∙ q)) (last? i c k)
 
 -- ---- a data cell, by its key
 pub data-test : (e : List ℤ) (c r : ℕ) → r ≡ keyOf (at e c) → void ≤ℤ at e c → not (eqb r 0) ≡ isData e c
@@ -141,31 +151,40 @@ module _ (g : Grid) (e : List ℤ) (len : length e ≡ size g) (work : List ℕ)
 
       go : Dec (getD work c 0 ≡ 0) → eqb (getD work c 0) 0 ≡ eqb (getD (levelsIn g work) c 0) 0
       go (yes z) = eq-eqb (getD work c 0) 0 z ∙ sym (eq-eqb (getD (levelsIn g work) c 0) 0 (read ∙ level-none (getD work c 0) z))
-      go (no f) = ne-eqb (getD work c 0) 0 f ∙ sym (ne-eqb (getD (levelsIn g work) c 0) 0 (λ q. f (word-none (getD work c 0) (sym read ∙ q))))
+      go (no f) =
+          ne-eqb (getD work c 0) 0 f ∙ sym (ne-eqb (getD (levelsIn g work) c 0) 0 (λ q. f (word-none (getD work c 0) (sym read ∙ q))))
 
   -- question 10's place
   pub place-is : {r : ℕ} → r ≡ firstBelow (length e) (λ c. isData e c && eqb (getD work c 0) 0) → r ≡ firstUnlevelled g e
   place-is q =
       q ∙ ap (λ (n : ℕ). firstBelow n (λ c. isData e c && eqb (getD work c 0) 0)) len
-      ∙ first-ext (size g) (λ c. isData e c && eqb (getD work c 0) 0) (λ c. isData e c && eqb (getD (levelsIn g work) c 0) 0) (λ c h. ap (λ (b : Bool). isData e c && b) (word-level c h))
+      ∙ first-ext (size g) (λ c. isData e c && eqb (getD work c 0) 0) (λ c. isData e c && eqb (getD (levelsIn g work) c 0) 0)
+      (λ c h. ap (λ (b : Bool). isData e c && b) (word-level c h))
       ∙ sym (certified-unlevelled g e len (L .certified))
 
   -- where there is none, a cell without a word is void
-  pub none-lacks : {r : ℕ} → r ≡ firstBelow (length e) (λ c. isData e c && eqb (getD work c 0) 0) → length e ≤ r → (c : ℕ) → c < size g → getD work c 0 ≡ 0 → isData e c ≡ false
+  pub none-lacks : {r : ℕ} → r ≡ firstBelow (length e) (λ c. isData e c && eqb (getD work c 0) 0) → length e ≤ r → (c : ℕ) → c < size g →
+      getD work c 0 ≡ 0 → isData e c ≡ false
   none-lacks {r} q h c on z =
-      ⊎-elim (λ d. true-false (and-true d (eq-eqb (getD work c 0) 0 z)) (first-all (length e) (λ c. isData e c && eqb (getD work c 0) 0) whole c (omega arith))) (λ v. v) (test (isData e c))
+      ⊎-elim (λ d. true-false (and-true d (eq-eqb (getD work c 0) 0 z))
+      (first-all (length e) (λ c. isData e c && eqb (getD work c 0) 0) whole c (omega arith))) (λ v. v) (test (isData e c))
     where
       whole : firstBelow (length e) (λ c. isData e c && eqb (getD work c 0) 0) ≡ length e
       whole = let a = Rattle.grid_laws.proofs.Below.first-≤ (length e) (λ c. isData e c && eqb (getD work c 0) 0) in omega arith
 
   -- the two endings
-  pub kept-codes : {r : ℕ} (codes : List ℕ) → r ≡ firstBelow (length e) (λ c. isData e c && eqb (getD work c 0) 0) → r < length e → (r ≡ firstUnlevelled g e) × (codes ≡ cond (eqb r (size g)) (directions g e) codes)
+  pub kept-codes : {r : ℕ} (codes : List ℕ) → r ≡ firstBelow (length e) (λ c. isData e c && eqb (getD work c 0) 0) → r < length e →
+      (r ≡ firstUnlevelled g e) × (codes ≡ cond (eqb r (size g)) (directions g e) codes)
   kept-codes {r} codes q h = (place-is q, sym (cond-false (directions g e) codes (ne-eqb r (size g) (λ s. omega arith))))
 
   pub written-codes : {r : ℕ} (codes codes′ : List ℕ) → r ≡ firstBelow (length e) (λ c. isData e c && eqb (getD work c 0) 0) → length e ≤ r
-      → codes′ ≡ table (size g) (directionAt g e (levelsIn g work)) → (r ≡ firstUnlevelled g e) × (codes′ ≡ cond (eqb r (size g)) (directions g e) codes)
-  written-codes {r} codes codes′ q h w =
-      (place-is q, w ∙ sym (certified-directions g e len (L .certified)) ∙ sym (cond-true (directions g e) codes (eq-eqb r (size g) whole)))
+      → codes′ ≡ table (size g) (directionAt g e (levelsIn g work)) →
+      (r ≡ firstUnlevelled g e) × (codes′ ≡ cond (eqb r (size g)) (directions g e) codes)
+  written-codes {r} codes codes′ q h w = (
+    place-is q,
+    w ∙ sym (certified-directions g e len (L .certified))
+        ∙ sym (cond-true (directions g e) codes (eq-eqb r (size g) whole)),
+  )
     where
       whole : r ≡ size g
       whole = let a = Rattle.grid_laws.proofs.Below.first-≤ (length e) (λ c. isData e c && eqb (getD work c 0) 0) in omega arith

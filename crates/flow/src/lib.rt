@@ -1,8 +1,8 @@
-// Flow directions (document 01, "Directions"): from any sheet the code of every cell, in linear time, or the first data cell without a level.
-// First each cell of level 0, an outlet or a cell with a drop above 0, gets its code as its word in the work buffer, row by row; then `levels`
-// finds the other levels; then one scan looks for a data cell without a level; and only when there is none are codes written. Proved by the
-// certificate of `flow_laws`: the words that `levels` leaves hold the levels of the definition, so the code of a flat cell is the choice among
-// its equal neighbours one level lower.
+// Flow directions (document 01, "Directions"): from any sheet the code of every cell, in linear time, or the first data cell without a
+// level. First each cell of level 0, an outlet or a cell with a drop above 0, gets its code as its word in the work buffer, row by row;
+// then `levels` finds the other levels; then one scan looks for a data cell without a level; and only when there is none are codes
+// written. Proved by the certificate of `flow_laws`: the words that `levels` leaves hold the levels of the definition, so the code of a
+// flat cell is the choice among its equal neighbours one level lower.
 use cells::key_at;
 use grid::Grid;
 ghost use mathlib.Core.Path.{_≡_};
@@ -130,8 +130,8 @@ fn seed_rows(g: Grid, elevations: &[i16], work: &mut [u32])
     outer_words(g, elevations, row * cols + 1, elevations.len(), work);
 }
 
-// Puts the first word of every cell into the work buffer, row by row: on the border, and on a sheet that is all border, there are only outlets
-// and voids.
+// Puts the first word of every cell into the work buffer, row by row: on the border, and on a sheet that is all border, there are only
+// outlets and voids.
 fn seed(g: Grid, elevations: &[i16], work: &mut [u32])
     requires { ⌜ length (now elevations) ≡ size g ⌝ }
     requires { ⌜ size g < 2 ^ 24 ⌝ }

@@ -43,7 +43,8 @@ module _ (g : Grid) (e : List ℤ) (len : length e ≡ size g) where
   unfolding beside-level
   gets l k c = isData e c && eqb (getD l c 0) 0 && beside-level l k c
 
-  pass-at : (k c : ℕ) → c < size g → getD (levelPasses g e (suc k)) c 0 ≡ cond (gets (levelPasses g e k) k c) (suc (suc k)) (getD (levelPasses g e k) c 0)
+  pass-at : (k c : ℕ) → c < size g →
+      getD (levelPasses g e (suc k)) c 0 ≡ cond (gets (levelPasses g e k) k c) (suc (suc k)) (getD (levelPasses g e k) c 0)
   unfolding levelPasses levelPassAt gets beside-level
   pass-at k c h = at-table (size g) (levelPassAt g e (levelPasses g e k) k) c 0 h
 
@@ -54,7 +55,8 @@ module _ (g : Grid) (e : List ℤ) (len : length e ≡ size g) where
   -- a cell either keeps what it has, or had none and gets a level by an equal neighbour
   data Passed (k c : ℕ) : Type 0 where
     keeps : getD (levelPasses g e (suc k)) c 0 ≡ getD (levelPasses g e k) c 0 → gets (levelPasses g e k) k c ≡ false → Passed k c
-    new : getD (levelPasses g e (suc k)) c 0 ≡ suc (suc k) → isData e c ≡ true → getD (levelPasses g e k) c 0 ≡ 0 → (p : ℕ) → p < 8 → isEqual g e c p ≡ true
+    new : getD (levelPasses g e (suc k)) c 0 ≡ suc (suc k) → isData e c ≡ true → getD (levelPasses g e k) c 0 ≡ 0 → (p : ℕ) → p < 8 →
+        isEqual g e c p ≡ true
         → getD (levelPasses g e k) (neighbour g c p) 0 ≡ suc k → Passed k c
 
   pass-cases : (k c : ℕ) → c < size g → Passed k c
@@ -78,7 +80,8 @@ module _ (g : Grid) (e : List ℤ) (len : length e ≡ size g) where
       got : gets l k c ≡ true → Passed k c
       got t =
           made t (and-left (isData e c && eqb (getD l c 0) 0) near t)
-          (some-of-any 8 (λ p. isEqual g e c p && eqb (getD l (neighbour g c p) 0) (suc k)) (and-right (isData e c && eqb (getD l c 0) 0) near t))
+          (some-of-any 8 (λ p. isEqual g e c p && eqb (getD l (neighbour g c p) 0) (suc k))
+          (and-right (isData e c && eqb (getD l c 0) 0) near t))
 
   -- a level that a cell has stays
   stays : (k c : ℕ) → c < size g → 0 < getD (levelPasses g e k) c 0 → getD (levelPasses g e (suc k)) c 0 ≡ getD (levelPasses g e k) c 0
@@ -89,11 +92,16 @@ module _ (g : Grid) (e : List ℤ) (len : length e ≡ size g) where
       go (new q d z p b r s) = let y : ⊥ = omega arith in absurd y
 
   -- a data cell with no level gets one beside a level k
-  joins : (k c p : ℕ) → c < size g → p < 8 → isData e c ≡ true → isEqual g e c p ≡ true → getD (levelPasses g e k) (neighbour g c p) 0 ≡ suc k → getD (levelPasses g e k) c 0 ≡ 0
+  joins : (k c p : ℕ) → c < size g → p < 8 → isData e c ≡ true → isEqual g e c p ≡ true →
+      getD (levelPasses g e k) (neighbour g c p) 0 ≡ suc k → getD (levelPasses g e k) c 0 ≡ 0
       → getD (levelPasses g e (suc k)) c 0 ≡ suc (suc k)
   unfolding gets beside-level
   joins k c p h b d r s z =
-      pass-at k c h ∙ cond-true _ _ (and-true (and-true d (eq-eqb (getD l c 0) 0 z)) (any-of 8 (λ q. isEqual g e c q && eqb (getD l (neighbour g c q) 0) (suc k)) p b (and-true r (eq-eqb (getD l (neighbour g c p) 0) (suc k) s))))
+      pass-at k c h
+      ∙ cond-true _ _
+      (and-true (and-true d (eq-eqb (getD l c 0) 0 z))
+      (any-of 8 (λ q. isEqual g e c q && eqb (getD l (neighbour g c q) 0) (suc k)) p b
+      (and-true r (eq-eqb (getD l (neighbour g c p) 0) (suc k) s))))
     where
       l : List ℕ
       l = levelPasses g e k
@@ -103,8 +111,10 @@ module _ (g : Grid) (e : List ℤ) (len : length e ≡ size g) where
     to : LevelsTo g e (levelPasses g e k) k
     bound : (c : ℕ) → c < size g → getD (levelPasses g e k) c 0 ≤ suc k
 
-  start-cases : (c : ℕ) → c < size g → ((getD (levelPasses g e 0) c 0 ≡ 1) × (isLevelZero g e c ≡ true)) ⊎ ((getD (levelPasses g e 0) c 0 ≡ 0) × (isLevelZero g e c ≡ false))
-  start-cases c h = ⊎-elim (λ t. inl (start-at c h ∙ cond-true 1 0 t, t)) (λ t. inr (start-at c h ∙ cond-false 1 0 t, t)) (test (isLevelZero g e c))
+  start-cases : (c : ℕ) → c < size g → ((getD (levelPasses g e 0) c 0 ≡ 1) × (isLevelZero g e c ≡ true))
+      ⊎ ((getD (levelPasses g e 0) c 0 ≡ 0) × (isLevelZero g e c ≡ false))
+  start-cases c h =
+      ⊎-elim (λ t. inl (start-at c h ∙ cond-true 1 0 t, t)) (λ t. inr (start-at c h ∙ cond-false 1 0 t, t)) (test (isLevelZero g e c))
 
   passes-length : (k : ℕ) → length (levelPasses g e k) ≡ size g
   unfolding levelPasses
@@ -119,8 +129,12 @@ module _ (g : Grid) (e : List ℤ) (len : length e ≡ size g) where
               cells = passes-length 0;
               zero-has = λ c h t. ⊎-elim (λ w. w .0) (λ w. true-false t (w .1)) (start-cases c h);
               one-is = λ c h q. ⊎-elim (λ w. w .1) (λ w. let s = w .0 in let z : ⊥ = omega arith in absurd z) (start-cases c h);
-              data-only = λ c h q. ⊎-elim (λ w. zero-data g e c (w .1)) (λ w. let s = w .0 in let z : ⊥ = omega arith in absurd z) (start-cases c h);
-              from-lower = λ c k h q. ⊎-elim (λ w. let s = w .0 in let z : ⊥ = omega arith in absurd z) (λ w. let s = w .0 in let z : ⊥ = omega arith in absurd z) (start-cases c h);
+              data-only =
+                  λ c h q. ⊎-elim (λ w. zero-data g e c (w .1)) (λ w. let s = w .0 in let z : ⊥ = omega arith in absurd z)
+                  (start-cases c h);
+              from-lower =
+                  λ c k h q. ⊎-elim (λ w. let s = w .0 in let z : ⊥ = omega arith in absurd z)
+                  (λ w. let s = w .0 in let z : ⊥ = omega arith in absurd z) (start-cases c h);
               spread = λ c p h b d r s t. let z : ⊥ = omega arith in absurd z;
             };
         bound = λ c h. ⊎-elim (λ w. let s = w .0 in omega arith) (λ w. let s = w .0 in omega arith) (start-cases c h);
@@ -148,21 +162,25 @@ module _ (g : Grid) (e : List ℤ) (len : length e ≡ size g) where
         → (p : ℕ) × (p < 8) × (isEqual g e c p ≡ true) × (getD (levelPasses g e (suc k)) (neighbour g c p) 0 ≡ suc j)
     one-pass-lower c j h q = go (pass-cases k c h)
       where
-        still : (p i : ℕ) → isEqual g e c p ≡ true → getD (levelPasses g e k) (neighbour g c p) 0 ≡ suc i → getD (levelPasses g e (suc k)) (neighbour g c p) 0 ≡ suc i
+        still : (p i : ℕ) → isEqual g e c p ≡ true → getD (levelPasses g e k) (neighbour g c p) 0 ≡ suc i →
+            getD (levelPasses g e (suc k)) (neighbour g c p) 0 ≡ suc i
         still p i r u = stays k (neighbour g c p) (equal-on-sheet c p r) (omega arith) ∙ u
 
         go : Passed k c → (p : ℕ) × (p < 8) × (isEqual g e c p ≡ true) × (getD (levelPasses g e (suc k)) (neighbour g c p) 0 ≡ suc j)
         go (keeps s f) = let w = P .to .from-lower c j h (sym s ∙ q) in (w .0, w .1, w .2, still (w .0) j (w .2) (w .3))
         go (new s d z p b r u) = let i : j ≡ k = omega arith in (p, b, r, still p j r (rw i u))
 
-    one-pass-spread : (c p : ℕ) → c < size g → p < 8 → isData e c ≡ true → isEqual g e c p ≡ true → 0 < getD (levelPasses g e (suc k)) (neighbour g c p) 0
+    one-pass-spread : (c p : ℕ) → c < size g → p < 8 → isData e c ≡ true → isEqual g e c p ≡ true →
+        0 < getD (levelPasses g e (suc k)) (neighbour g c p) 0
         → getD (levelPasses g e (suc k)) (neighbour g c p) 0 ≤ suc k
-        → (0 < getD (levelPasses g e (suc k)) c 0) × (getD (levelPasses g e (suc k)) c 0 ≤ suc (getD (levelPasses g e (suc k)) (neighbour g c p) 0))
+        → (0 < getD (levelPasses g e (suc k)) c 0)
+        × (getD (levelPasses g e (suc k)) c 0 ≤ suc (getD (levelPasses g e (suc k)) (neighbour g c p) 0))
     one-pass-spread c p h b d r some low = go (pass-cases k (neighbour g c p) (equal-on-sheet c p r))
       where
         old : getD (levelPasses g e (suc k)) (neighbour g c p) 0 ≡ getD (levelPasses g e k) (neighbour g c p) 0
             → Dec (getD (levelPasses g e k) (neighbour g c p) 0 < suc k) → Dec (0 < getD (levelPasses g e k) c 0)
-            → (0 < getD (levelPasses g e (suc k)) c 0) × (getD (levelPasses g e (suc k)) c 0 ≤ suc (getD (levelPasses g e (suc k)) (neighbour g c p) 0))
+            → (0 < getD (levelPasses g e (suc k)) c 0)
+            × (getD (levelPasses g e (suc k)) c 0 ≤ suc (getD (levelPasses g e (suc k)) (neighbour g c p) 0))
         old s (yes m) y =
             let w = P .to .spread c p h b d r (omega arith) (omega arith) in
             let i = w .0 in
@@ -173,7 +191,8 @@ module _ (g : Grid) (e : List ℤ) (len : length e ≡ size g) where
         old s (no m) (no i) = let t = joins k c p h b d r (omega arith) (omega arith) in (omega arith, omega arith)
 
         go : Passed k (neighbour g c p)
-            → (0 < getD (levelPasses g e (suc k)) c 0) × (getD (levelPasses g e (suc k)) c 0 ≤ suc (getD (levelPasses g e (suc k)) (neighbour g c p) 0))
+            → (0 < getD (levelPasses g e (suc k)) c 0)
+            × (getD (levelPasses g e (suc k)) c 0 ≤ suc (getD (levelPasses g e (suc k)) (neighbour g c p) 0))
         go (keeps s f) = old s (decLt (getD (levelPasses g e k) (neighbour g c p) 0) (suc k)) (decLt 0 (getD (levelPasses g e k) c 0))
         go (new s x z q a t u) = let y : ⊥ = omega arith in absurd y
 
@@ -209,7 +228,8 @@ module _ (g : Grid) (e : List ℤ) (len : length e ≡ size g) where
 
   pub level-≤-size : {l : List ℕ} {top : ℕ} → LevelsTo g e l top → (c : ℕ) → c < size g → getD l c 0 ≤ size g
   level-≤-size {l} {top} C c h =
-      few-levels (size g) (λ d. getD l d 0) (λ d k i q. let w = C .from-lower d k i q in (neighbour g d (w .0), equal-on-sheet d (w .0) (w .2), w .3)) c h
+      few-levels (size g) (λ d. getD l d 0)
+      (λ d k i q. let w = C .from-lower d k i q in (neighbour g d (w .0), equal-on-sheet d (w .0) (w .2), w .3)) c h
 
   -- ---- two lists with the certificate are equal
   one-way : {l m : List ℕ} → Levels g e l → Levels g e m → (k : ℕ)
@@ -234,7 +254,8 @@ module _ (g : Grid) (e : List ℤ) (len : length e ≡ size g) where
           split (no i) = omega arith
 
   Agree : List ℕ → List ℕ → ℕ → Type 0
-  Agree l m k = ((c : ℕ) → c < size g → getD l c 0 ≡ suc k → getD m c 0 ≡ suc k) × ((c : ℕ) → c < size g → getD m c 0 ≡ suc k → getD l c 0 ≡ suc k)
+  Agree l m k =
+      ((c : ℕ) → c < size g → getD l c 0 ≡ suc k → getD m c 0 ≡ suc k) × ((c : ℕ) → c < size g → getD m c 0 ≡ suc k → getD l c 0 ≡ suc k)
 
   agree-below : {l m : List ℕ} → Levels g e l → Levels g e m → (k j : ℕ) → j < k → Agree l m j
   unfolding Agree
@@ -242,7 +263,8 @@ module _ (g : Grid) (e : List ℤ) (len : length e ≡ size g) where
   agree-below {l} {m} L M (suc k) j h = go (ℕ-discrete j k) (λ i b. agree-below L M k i b)
     where
       go : Dec (j ≡ k) → ((i : ℕ) → i < k → Agree l m i) → Agree l m j
-      go (yes q) below = rw q (one-way L M k (λ i b. below i b .0) (λ i b. below i b .1), one-way M L k (λ i b. below i b .1) (λ i b. below i b .0))
+      go (yes q) below =
+          rw q (one-way L M k (λ i b. below i b .0) (λ i b. below i b .1), one-way M L k (λ i b. below i b .1) (λ i b. below i b .0))
       go (no d) below = below j (omega arith)
 
   same-levels : {l m : List ℕ} → Levels g e l → Levels g e m → (c : ℕ) → c < size g → getD l c 0 ≡ getD m c 0
@@ -255,13 +277,16 @@ module _ (g : Grid) (e : List ℤ) (len : length e ≡ size g) where
       go zero (suc y) q r = agree-below L M (suc y) y (omega arith) .1 c h r ∙ sym r
 
   pub certified-levels : {l : List ℕ} → Levels g e l → levels g e ≡ l
-  certified-levels {l} C = ext-getD 0 (levels g e) l (levels-certified .cells ∙ sym (C .cells)) (λ c h. same-levels levels-certified C c (rw (levels-certified .cells) at h))
+  certified-levels {l} C =
+      ext-getD 0 (levels g e) l (levels-certified .cells ∙ sym (C .cells))
+      (λ c h. same-levels levels-certified C c (rw (levels-certified .cells) at h))
 
   -- ---- what the levels are used for
   pub certified-directions : {l : List ℕ} → Levels g e l → directions g e ≡ table (size g) (directionAt g e l)
   unfolding directions
   certified-directions {l} C = ap (λ (x : List ℕ). table (size g) (directionAt g e x)) (certified-levels C)
 
-  pub certified-unlevelled : {l : List ℕ} → Levels g e l → firstUnlevelled g e ≡ firstBelow (size g) (λ c. isData e c && eqb (getD l c 0) 0)
+  pub certified-unlevelled : {l : List ℕ} → Levels g e l →
+      firstUnlevelled g e ≡ firstBelow (size g) (λ c. isData e c && eqb (getD l c 0) 0)
   unfolding firstUnlevelled
   certified-unlevelled {l} C = ap (λ (x : List ℕ). firstBelow (size g) (λ c. isData e c && eqb (getD x c 0) 0)) (certified-levels C)

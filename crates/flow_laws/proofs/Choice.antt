@@ -35,9 +35,21 @@ bit-times true k = omega arith
 bit-times false k = omega arith
 
 module _ (t : ℕ → Bool) where
-  sum-of-bits : codeSum t ≡ bit (t 0) + 2 * bit (t 1) + 4 * bit (t 2) + 8 * bit (t 3) + 16 * bit (t 4) + 32 * bit (t 5) + 64 * bit (t 6) + 128 * bit (t 7)
+  sum-of-bits : codeSum t ≡ bit (t 0) + 2 * bit (t 1) + 4 * bit (t 2) + 8 * bit (t 3) + 16 * bit (t 4) + 32 * bit (t 5) + 64 * bit (t 6)
+      + 128 * bit (t 7)
   unfolding sumBelow
-  sum-of-bits = omega (arith, bit-times (t 0) 1, bit-times (t 1) 2, bit-times (t 2) 4, bit-times (t 3) 8, bit-times (t 4) 16, bit-times (t 5) 32, bit-times (t 6) 64, bit-times (t 7) 128)
+  sum-of-bits =
+      omega (
+        arith,
+        bit-times (t 0) 1,
+        bit-times (t 1) 2,
+        bit-times (t 2) 4,
+        bit-times (t 3) 8,
+        bit-times (t 4) 16,
+        bit-times (t 5) 32,
+        bit-times (t 6) 64,
+        bit-times (t 7) 128,
+      )
 
   pub sum-small : codeSum t < 256
   sum-small =
@@ -55,7 +67,18 @@ module _ (t : ℕ → Bool) where
       (omega (arith, sum-of-bits t, bit-≤ (t 0), bit-≤ (t 1), bit-≤ (t 2), bit-≤ (t 3), bit-≤ (t 4)))
       (omega (arith, sum-of-bits t, bit-≤ (t 0), bit-≤ (t 1), bit-≤ (t 2), bit-≤ (t 3), bit-≤ (t 4), bit-≤ (t 5)))
       (omega (arith, sum-of-bits t, bit-≤ (t 0), bit-≤ (t 1), bit-≤ (t 2), bit-≤ (t 3), bit-≤ (t 4), bit-≤ (t 5), bit-≤ (t 6)))
-      (omega (arith, sum-of-bits t, bit-≤ (t 0), bit-≤ (t 1), bit-≤ (t 2), bit-≤ (t 3), bit-≤ (t 4), bit-≤ (t 5), bit-≤ (t 6), bit-≤ (t 7)))
+      (omega (
+        arith,
+        sum-of-bits t,
+        bit-≤ (t 0),
+        bit-≤ (t 1),
+        bit-≤ (t 2),
+        bit-≤ (t 3),
+        bit-≤ (t 4),
+        bit-≤ (t 5),
+        bit-≤ (t 6),
+        bit-≤ (t 7),
+      ))
 
 -- ---- the table
 -- the choice is 0 for 0, and else the code of a member
@@ -76,19 +99,28 @@ choice-member s some small =
 
     go : (eqb s 0 ≡ true) ⊎ (anyBelow 8 test′ ≡ true) → (p : ℕ) × (p < 8) × (member s p ≡ 1) × (choice s ≡ codeAt p)
     go (inl q) = let z : s ≡ 0 = eqb-true s 0 q in let y : ⊥ = omega arith in absurd y
-    go (inr q) = let w = some-of-any 8 test′ q in (w .0, w .1, eqb-true (member s (w .0)) 1 (and-left (eqb (member s (w .0)) 1) (eqb (choice s) (codeAt (w .0))) (w .2)), eqb-true (choice s) (codeAt (w .0)) (and-right (eqb (member s (w .0)) 1) (eqb (choice s) (codeAt (w .0))) (w .2)))
+    go (inr q) =
+        let w = some-of-any 8 test′ q in (
+          w .0,
+          w .1,
+          eqb-true (member s (w .0)) 1 (and-left (eqb (member s (w .0)) 1) (eqb (choice s) (codeAt (w .0))) (w .2)),
+          eqb-true (choice s) (codeAt (w .0)) (and-right (eqb (member s (w .0)) 1) (eqb (choice s) (codeAt (w .0))) (w .2)),
+        )
 
 -- the choice among positions, of which there is one, is the code of one of them
 pub chosen : (t : ℕ → Bool) (q : ℕ) → q < 8 → t q ≡ true → (p : ℕ) × (p < 8) × (t p ≡ true) × (choice (codeSum t) ≡ codeAt p)
 unfolding bit
-chosen t q h y = let w = choice-member (codeSum t) some (sum-small t) in (w .0, w .1, is-set (t (w .0)) (sym (members t (w .0) (w .1)) ∙ w .2), w .3)
+chosen t q h y =
+    let w = choice-member (codeSum t) some (sum-small t) in (w .0, w .1, is-set (t (w .0)) (sym (members t (w .0) (w .1)) ∙ w .2), w .3)
   where
     is-set : (b : Bool) → _≡_ {A = ℕ} (cond b 1 0) 1 → b ≡ true
     is-set true z = refl
     is-set false z = let v : ⊥ = omega arith in absurd v
 
     positive : (p : ℕ) → p < 8 → 0 < codeAt p
-    positive = at-eight (λ p. 0 < codeAt p) (omega arith) (omega arith) (omega arith) (omega arith) (omega arith) (omega arith) (omega arith) (omega arith)
+    positive =
+        at-eight (λ p. 0 < codeAt p) (omega arith) (omega arith) (omega arith) (omega arith) (omega arith) (omega arith) (omega arith)
+        (omega arith)
 
     some : 0 < codeSum t
     some =
@@ -101,4 +133,6 @@ unfolding member score bestOf choice
 chosen-none t h = (zero-sum, ap choice zero-sum)
   where
     zero-sum : codeSum t ≡ 0
-    zero-sum = Rattle.grid_laws.proofs.Below.sum-zero 8 (λ p. cond (t p) (codeAt p) 0) (λ p l. Rattle.grid_laws.proofs.Tests.cond-false (codeAt p) 0 (h p l))
+    zero-sum =
+        Rattle.grid_laws.proofs.Below.sum-zero 8 (λ p. cond (t p) (codeAt p) 0)
+        (λ p l. Rattle.grid_laws.proofs.Tests.cond-false (codeAt p) 0 (h p l))

@@ -21,13 +21,15 @@ use Rattle.flow_laws.specs.Search.{Equal, Search}
 use Rattle.flow_laws.proofs.Agree.{equal-data, zero-data}
 use Rattle.flow_laws.proofs.Search.{spread-all}
 
-pub is-equal : (g : Grid) (e : List ℤ) (c p : ℕ) → isData e (neighbour g c p) ≡ true → at e (neighbour g c p) ≡ at e c → isEqual g e c p ≡ true
+pub is-equal : (g : Grid) (e : List ℤ) (c p : ℕ) → isData e (neighbour g c p) ≡ true → at e (neighbour g c p) ≡ at e c →
+    isEqual g e c p ≡ true
 unfolding isEqual
 is-equal g e c p d q = and-true d (eq-eqZ q)
 
 pub equal-height : (g : Grid) (e : List ℤ) (c p : ℕ) → isEqual g e c p ≡ true → at e (neighbour g c p) ≡ at e c
 unfolding isEqual
-equal-height g e c p q = eqZ-eq (at e (neighbour g c p)) (at e c) (and-right (isData e (neighbour g c p)) (eqZ (at e (neighbour g c p)) (at e c)) q)
+equal-height g e c p q =
+    eqZ-eq (at e (neighbour g c p)) (at e c) (and-right (isData e (neighbour g c p)) (eqZ (at e (neighbour g c p)) (at e c)) q)
 
 module _ (g : Grid) (e : List ℤ) (len : length e ≡ size g) where
   pub equal-on : (c d : ℕ) → Equal g e c d → c < size g
@@ -40,7 +42,9 @@ module _ (g : Grid) (e : List ℤ) (len : length e ≡ size g) where
         position = opposite (b .position);
         eight = opposite-small (b .position) (b .eight);
         there = back;
-        equal = is-equal g e d (opposite (b .position)) (subst (λ (x : ℕ). isData e x ≡ true) (sym back) (b .from-data)) (ap (at e) back ∙ sym same);
+        equal =
+            is-equal g e d (opposite (b .position)) (subst (λ (x : ℕ). isData e x ≡ true) (sym back) (b .from-data))
+            (ap (at e) back ∙ sym same);
       }
     where
       there-data : isData e d ≡ true
@@ -50,13 +54,16 @@ module _ (g : Grid) (e : List ℤ) (len : length e ≡ size g) where
       near-on = on-sheet g e len (neighbour g c (b .position)) (equal-data g e c (b .position) (b .equal))
 
       back : neighbour g d (opposite (b .position)) ≡ c
-      back = subst (λ (x : ℕ). neighbour g x (opposite (b .position)) ≡ c) (b .there) (step-back g c (b .position) (b .eight) (equal-on c d b) near-on)
+      back =
+          subst (λ (x : ℕ). neighbour g x (opposite (b .position)) ≡ c) (b .there)
+          (step-back g c (b .position) (b .eight) (equal-on c d b) near-on)
 
       same : at e d ≡ at e c
       same = ap (at e) (sym (b .there)) ∙ equal-height g e c (b .position) (b .equal)
 
   -- the levels that an ended search leaves
-  pub search-levels : {level queue : ℕ → ℕ} {seen head tail : ℕ} → Search (size g) (isLevelZero g e) (Equal g e) level queue seen head tail → size g ≤ seen → tail ≤ head
+  pub search-levels : {level queue : ℕ → ℕ} {seen head tail : ℕ} →
+      Search (size g) (isLevelZero g e) (Equal g e) level queue seen head tail → size g ≤ seen → tail ≤ head
       → Levels g e (table (size g) level)
   search-levels {level} {queue} {seen} {head} {tail} S hs ht =
       record {
@@ -78,22 +85,27 @@ module _ (g : Grid) (e : List ℤ) (len : length e ≡ size g) where
           go (yes l) = S .from-lower c h l .1 .from-data
           go (no f) = zero-data g e c (S .one-is c h (omega arith))
 
-      lower : (c k : ℕ) → c < size g → level c ≡ suc (suc k) → (p : ℕ) × (p < 8) × (isEqual g e c p ≡ true) × (getD (table (size g) level) (neighbour g c p) 0 ≡ suc k)
+      lower : (c k : ℕ) → c < size g → level c ≡ suc (suc k) →
+          (p : ℕ) × (p < 8) × (isEqual g e c p ≡ true) × (getD (table (size g) level) (neighbour g c p) 0 ≡ suc k)
       lower c k h q =
           let w = S .from-lower c h (omega arith) in
           let b = w .1 in
           let r : level c ≡ suc (level (w .0)) = w .3 in
-          let n : neighbour g c (b .position) < size g = on-sheet g e len (neighbour g c (b .position)) (equal-data g e c (b .position) (b .equal)) in
+          let n : neighbour g c (b .position) < size g =
+          on-sheet g e len (neighbour g c (b .position)) (equal-data g e c (b .position) (b .equal)) in
           let t = ap level (b .there) in
           (b .position, b .eight, b .equal, read (neighbour g c (b .position)) n ∙ omega arith)
 
-      all : (c p : ℕ) → c < size g → p < 8 → isData e c ≡ true → isEqual g e c p ≡ true → 0 < getD (table (size g) level) (neighbour g c p) 0
-          → (0 < getD (table (size g) level) c 0) × (getD (table (size g) level) c 0 ≤ suc (getD (table (size g) level) (neighbour g c p) 0))
+      all : (c p : ℕ) → c < size g → p < 8 → isData e c ≡ true → isEqual g e c p ≡ true →
+          0 < getD (table (size g) level) (neighbour g c p) 0
+          → (0 < getD (table (size g) level) c 0)
+          × (getD (table (size g) level) c 0 ≤ suc (getD (table (size g) level) (neighbour g c p) 0))
       all c p h b d q some =
           let n : neighbour g c p < size g = on-sheet g e len (neighbour g c p) (equal-data g e c p q) in
           let r = read c h in
           let t = read (neighbour g c p) n in
-          let w = spread-all equal-back equal-on S hs ht c (neighbour g c p) (record { from-data = d; position = p; eight = b; there = refl; equal = q }) (omega arith) in
+          let w = spread-all equal-back equal-on S hs ht c (neighbour g c p)
+          (record { from-data = d; position = p; eight = b; there = refl; equal = q }) (omega arith) in
           let x = w .0 in
           let y = w .1 in
           (omega arith, omega arith)

@@ -21,7 +21,8 @@ count-mono zero p q f = omega arith
 count-mono (suc n) p q f = omega (arith, count-mono n p q f, one-to-one (p n) (q n) (f n))
 
 -- a test that holds of more numbers counts more
-pub count-more : (n : ℕ) (p q : ℕ → Bool) (c : ℕ) → c < n → ((k : ℕ) → p k ≡ true → q k ≡ true) → p c ≡ false → q c ≡ true → countBelow n p < countBelow n q
+pub count-more : (n : ℕ) (p q : ℕ → Bool) (c : ℕ) → c < n → ((k : ℕ) → p k ≡ true → q k ≡ true) → p c ≡ false → q c ≡ true →
+    countBelow n p < countBelow n q
 count-more zero p q c h f np qc = let z : ⊥ = omega arith in absurd z
 count-more (suc n) p q c h f np qc = go (ℕ-discrete c n) (λ l. count-more n p q c l f np qc)
   where
@@ -41,7 +42,9 @@ module _ (n : ℕ) (level : ℕ → ℕ) (from-lower : (c k : ℕ) → c < n →
 
   within-more : (k c : ℕ) → within k c ≡ true → within (suc k) c ≡ true
   unfolding within
-  within-more k c e = and-true (and-left (leb 1 (level c)) (leb (level c) k) e) (le-leb (level c) (suc k) (let h = leb-true (level c) k (and-right (leb 1 (level c)) (leb (level c) k) e) in omega arith))
+  within-more k c e =
+      and-true (and-left (leb 1 (level c)) (leb (level c) k) e)
+      (le-leb (level c) (suc k) (let h = leb-true (level c) k (and-right (leb 1 (level c)) (leb (level c) k) e) in omega arith))
 
   within-grows : (k c : ℕ) → c < n → level c ≡ suc k → countBelow n (within k) < countBelow n (within (suc k))
   unfolding within
@@ -61,4 +64,5 @@ module _ (n : ℕ) (level : ℕ → ℕ) (from-lower : (c k : ℕ) → c < n →
 
 pub count-none : (n : ℕ) (p : ℕ → Bool) → ((k : ℕ) → k < n → p k ≡ false) → countBelow n p ≡ 0
 unfolding countBelow
-count-none n p h = Rattle.grid_laws.proofs.Below.sum-zero n (λ k. cond (p k) 1 0) (λ k l. Rattle.grid_laws.proofs.Tests.cond-false 1 0 (h k l))
+count-none n p h =
+    Rattle.grid_laws.proofs.Below.sum-zero n (λ k. cond (p k) 1 0) (λ k l. Rattle.grid_laws.proofs.Tests.cond-false 1 0 (h k l))

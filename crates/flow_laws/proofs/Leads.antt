@@ -17,7 +17,8 @@ use Rattle.grid.specs.Sheet.{size, at, isData, neighbour, codeAt, positionOf}
 use Rattle.grid.specs.Outlet.{leavesAt, isOutlet, outletOrder, outletCode}
 use Rattle.grid.specs.Directions.{isSteepest, steepestSum, choice, isEqual, hasDescent, isLevelZero, flatSum, directionAt, directions}
 use Rattle.grid.specs.Routes.{positionAt, hasCode, receiver}
-use Rattle.grid_laws.proofs.Tests.{test, true-false, and-true, and-left, and-right, and-false-right, or-cases, or-false, cond-true, cond-false, not-is-true}
+use Rattle.grid_laws.proofs.Tests.{test, true-false, and-true, and-left, and-right, and-false-right, or-cases, or-false, cond-true}
+use Rattle.grid_laws.proofs.Tests.{cond-false, not-is-true}
 use Rattle.grid_laws.proofs.Below.{at-table, length-table, first-found, first-≤, first-all}
 use Rattle.grid_laws.proofs.Order.{<ℤ→≤ℤ, ≤ℤ-of-eq}
 use Rattle.grid_laws.proofs.Cells.{on-sheet}
@@ -40,11 +41,13 @@ module _ (g : Grid) (e : List ℤ) (l : List ℕ) (c : ℕ) where
   unfolding directionAt
   outlet-direction o = cond-true _ 0 (outlet-data g e c o) ∙ cond-true (outletCode g e c) _ o
 
-  pub descent-direction : isData e c ≡ true → isOutlet g e c ≡ false → hasDescent g e c ≡ true → directionAt g e l c ≡ choice (steepestSum g e c)
+  pub descent-direction : isData e c ≡ true → isOutlet g e c ≡ false → hasDescent g e c ≡ true →
+      directionAt g e l c ≡ choice (steepestSum g e c)
   unfolding directionAt
   descent-direction d o h = cond-true _ 0 d ∙ cond-false (outletCode g e c) _ o ∙ cond-true (choice (steepestSum g e c)) _ h
 
-  pub flat-direction : isData e c ≡ true → isOutlet g e c ≡ false → hasDescent g e c ≡ false → directionAt g e l c ≡ choice (flatSum g e l c)
+  pub flat-direction : isData e c ≡ true → isOutlet g e c ≡ false → hasDescent g e c ≡ false →
+      directionAt g e l c ≡ choice (flatSum g e l c)
   unfolding directionAt
   flat-direction d o h = cond-true _ 0 d ∙ cond-false (outletCode g e c) _ o ∙ cond-false (choice (steepestSum g e c)) _ h
 
@@ -56,19 +59,25 @@ module _ (g : Grid) (e : List ℤ) (l : List ℕ) (c : ℕ) where
   unfolding steepestSum
   steepest-chosen h = let w = some-steepest g e c h in chosen (isSteepest g e c) (w .0) (w .1) (w .2)
 
-  pub flat-chosen : (q : ℕ) → q < 8 → isEqual g e c q ≡ true → suc (getD l (neighbour g c q) 0) ≡ getD l c 0 → 0 < getD l (neighbour g c q) 0
+  pub flat-chosen : (q : ℕ) → q < 8 → isEqual g e c q ≡ true → suc (getD l (neighbour g c q) 0) ≡ getD l c 0 →
+      0 < getD l (neighbour g c q) 0
       → (p : ℕ) × (p < 8) × (isBelow p ≡ true) × (choice (flatSum g e l c) ≡ codeAt p)
   unfolding flatSum
-  flat-chosen q h y s t = chosen isBelow q h (and-true (and-true y (eq-eqb (suc (getD l (neighbour g c q) 0)) (getD l c 0) s)) (lt-ltb 0 (getD l (neighbour g c q) 0) t))
+  flat-chosen q h y s t =
+      chosen isBelow q h
+      (and-true (and-true y (eq-eqb (suc (getD l (neighbour g c q) 0)) (getD l c 0) s)) (lt-ltb 0 (getD l (neighbour g c q) 0) t))
 
 -- ---- an outlet's code
 order-small : (i : ℕ) → i < 8 → getD outletOrder i 0 < 8
-order-small = at-eight (λ i. getD outletOrder i 0 < 8) (omega arith) (omega arith) (omega arith) (omega arith) (omega arith) (omega arith) (omega arith) (omega arith)
+order-small =
+    at-eight (λ i. getD outletOrder i 0 < 8) (omega arith) (omega arith) (omega arith) (omega arith) (omega arith) (omega arith)
+    (omega arith) (omega arith)
 
 -- each position has its place in the order
 order-of : (p : ℕ) → p < 8 → (i : ℕ) × (i < 8) × (getD outletOrder i 0 ≡ p)
 order-of =
-    at-eight (λ p. (i : ℕ) × (i < 8) × (getD outletOrder i 0 ≡ p)) (4, omega arith, refl) (1, omega arith, refl) (5, omega arith, refl) (3, omega arith, refl) (6, omega arith, refl)
+    at-eight (λ p. (i : ℕ) × (i < 8) × (getD outletOrder i 0 ≡ p)) (4, omega arith, refl) (1, omega arith, refl) (5, omega arith, refl)
+    (3, omega arith, refl) (6, omega arith, refl)
     (0, omega arith, refl) (7, omega arith, refl) (2, omega arith, refl)
 
 module _ (g : Grid) (e : List ℤ) (c : ℕ) where
@@ -77,7 +86,8 @@ module _ (g : Grid) (e : List ℤ) (c : ℕ) where
 
   pub outlet-position : isOutlet g e c ≡ true → (p : ℕ) × (p < 8) × (leavesAt g e c p ≡ true) × (outletCode g e c ≡ codeAt p)
   unfolding outletCode leavesBy
-  outlet-position o = (getD outletOrder (firstBelow 8 leavesBy) 0, order-small (firstBelow 8 leavesBy) found, first-found 8 leavesBy found, refl)
+  outlet-position o =
+      (getD outletOrder (firstBelow 8 leavesBy) 0, order-small (firstBelow 8 leavesBy) found, first-found 8 leavesBy found, refl)
     where
       found : firstBelow 8 leavesBy < 8
       found = go (decLt (firstBelow 8 leavesBy) 8)
@@ -88,19 +98,25 @@ module _ (g : Grid) (e : List ℤ) (c : ℕ) where
               let w = outlet-leaves g e c o in
               let i = order-of (w .0) (w .1) in
               let b = first-≤ 8 leavesBy in
-              true-false (subst (λ (p : ℕ). leavesAt g e c p ≡ true) (sym (i .2)) (w .2)) (first-all 8 leavesBy (omega arith) (i .0) (i .1))
+              true-false (subst (λ (p : ℕ). leavesAt g e c p ≡ true) (sym (i .2)) (w .2))
+              (first-all 8 leavesBy (omega arith) (i .0) (i .1))
 
 -- ---- the code of a cell of level 0 depends on no level, and is one of the eight
 code-range : (p : ℕ) → p < 8 → (0 < codeAt p) × (codeAt p < 256)
 code-range =
-    at-eight (λ p. (0 < codeAt p) × (codeAt p < 256)) (omega arith, omega arith) (omega arith, omega arith) (omega arith, omega arith) (omega arith, omega arith)
+    at-eight (λ p. (0 < codeAt p) × (codeAt p < 256)) (omega arith, omega arith) (omega arith, omega arith) (omega arith, omega arith)
+    (omega arith, omega arith)
     (omega arith, omega arith) (omega arith, omega arith) (omega arith, omega arith) (omega arith, omega arith)
 
-pub zero-outlet-or-descent : (g : Grid) (e : List ℤ) (c : ℕ) → isLevelZero g e c ≡ true → (isOutlet g e c ≡ true) ⊎ ((isOutlet g e c ≡ false) × (hasDescent g e c ≡ true))
+pub zero-outlet-or-descent : (g : Grid) (e : List ℤ) (c : ℕ) → isLevelZero g e c ≡ true →
+    (isOutlet g e c ≡ true) ⊎ ((isOutlet g e c ≡ false) × (hasDescent g e c ≡ true))
 unfolding isLevelZero
-zero-outlet-or-descent g e c z = go (test (isOutlet g e c)) (or-cases (isOutlet g e c) (hasDescent g e c) (and-right (isData e c) (isOutlet g e c || hasDescent g e c) z))
+zero-outlet-or-descent g e c z =
+    go (test (isOutlet g e c))
+    (or-cases (isOutlet g e c) (hasDescent g e c) (and-right (isData e c) (isOutlet g e c || hasDescent g e c) z))
   where
-    go : (isOutlet g e c ≡ true) ⊎ (isOutlet g e c ≡ false) → (isOutlet g e c ≡ true) ⊎ (hasDescent g e c ≡ true) → (isOutlet g e c ≡ true) ⊎ ((isOutlet g e c ≡ false) × (hasDescent g e c ≡ true))
+    go : (isOutlet g e c ≡ true) ⊎ (isOutlet g e c ≡ false) → (isOutlet g e c ≡ true) ⊎ (hasDescent g e c ≡ true) →
+        (isOutlet g e c ≡ true) ⊎ ((isOutlet g e c ≡ false) × (hasDescent g e c ≡ true))
     go (inl o) w = inl o
     go (inr n) (inl o) = inl o
     go (inr n) (inr h) = inr (n, h)
@@ -109,16 +125,20 @@ module _ (g : Grid) (e : List ℤ) (c : ℕ) (z : isLevelZero g e c ≡ true) wh
   pub zero-code-range : (0 < directionAt g e [] c) × (directionAt g e [] c < 256)
   zero-code-range = go (zero-outlet-or-descent g e c z)
     where
-      go : (isOutlet g e c ≡ true) ⊎ ((isOutlet g e c ≡ false) × (hasDescent g e c ≡ true)) → (0 < directionAt g e [] c) × (directionAt g e [] c < 256)
+      go : (isOutlet g e c ≡ true) ⊎ ((isOutlet g e c ≡ false) × (hasDescent g e c ≡ true)) →
+          (0 < directionAt g e [] c) × (directionAt g e [] c < 256)
       go (inl o) = let w = outlet-position g e c o in rw (outlet-direction g e [] c o ∙ w .3) (code-range (w .0) (w .1))
-      go (inr h) = let w = steepest-chosen g e [] c (h .1) in rw (descent-direction g e [] c (zero-data g e c z) (h .0) (h .1) ∙ w .3) (code-range (w .0) (w .1))
+      go (inr h) =
+          let w = steepest-chosen g e [] c (h .1) in
+          rw (descent-direction g e [] c (zero-data g e c z) (h .0) (h .1) ∙ w .3) (code-range (w .0) (w .1))
 
   pub zero-code-any : (l : List ℕ) → directionAt g e l c ≡ directionAt g e [] c
   zero-code-any l = go (zero-outlet-or-descent g e c z)
     where
       go : (isOutlet g e c ≡ true) ⊎ ((isOutlet g e c ≡ false) × (hasDescent g e c ≡ true)) → directionAt g e l c ≡ directionAt g e [] c
       go (inl o) = outlet-direction g e l c o ∙ sym (outlet-direction g e [] c o)
-      go (inr h) = descent-direction g e l c (zero-data g e c z) (h .0) (h .1) ∙ sym (descent-direction g e [] c (zero-data g e c z) (h .0) (h .1))
+      go (inr h) =
+          descent-direction g e l c (zero-data g e c z) (h .0) (h .1) ∙ sym (descent-direction g e [] c (zero-data g e c z) (h .0) (h .1))
 
 -- ---- the codes of a sheet in which every data cell has a level
 code-position : (codes : List ℕ) (c p : ℕ) → p < 8 → getD codes c 0 ≡ codeAt p → positionAt codes c ≡ p
@@ -155,7 +175,8 @@ module _ (g : Grid) (e : List ℤ) (len : length e ≡ size g) (l : List ℕ) (C
   unfolding receiver
   outlet-leads-out c o =
       let w = outlet-position g e c o in
-      let here = code-position (directions g e) c (w .0) (w .1) (code-of c (on-sheet g e len c (outlet-data g e c o)) ∙ outlet-direction g e l c o ∙ w .3) in
+      let here = code-position (directions g e) c (w .0) (w .1) (code-of c (on-sheet g e len c (outlet-data g e c o))
+      ∙ outlet-direction g e l c o ∙ w .3) in
       let small : positionAt (directions g e) c < 8 = rw here (w .1) in
       record {
         position = small;
@@ -175,7 +196,8 @@ module _ (g : Grid) (e : List ℤ) (len : length e ≡ size g) (l : List ℕ) (C
       on = on-sheet g e len c d
 
       to : (p : ℕ) → p < 8 → getD (directions g e) c 0 ≡ codeAt p → isData e (neighbour g c p) ≡ true
-          → (at e (neighbour g c p) <ℤ at e c) ⊎ ((at e (neighbour g c p) ≡ at e c) × (getD l (neighbour g c p) 0 < getD l c 0)) → LeadsDown g e (directions g e) l c
+          → (at e (neighbour g c p) <ℤ at e c) ⊎ ((at e (neighbour g c p) ≡ at e c) × (getD l (neighbour g c p) 0 < getD l c 0)) →
+          LeadsDown g e (directions g e) l c
       to p h q t f =
           let here = code-position (directions g e) c p h q in
           let small : positionAt (directions g e) c < 8 = rw here h in
@@ -203,7 +225,13 @@ module _ (g : Grid) (e : List ℤ) (len : length e ≡ size g) (l : List ℕ) (C
               let w = C .from-lower c k on q in
               let below = w .3 in
               let v = flat-chosen g e l c (w .0) (w .1) (w .2) (omega arith) (omega arith) in
-              let first : (isEqual g e c (v .0) && eqb (suc (getD l (neighbour g c (v .0)) 0)) (getD l c 0)) ≡ true = and-left (isEqual g e c (v .0) && eqb (suc (getD l (neighbour g c (v .0)) 0)) (getD l c 0)) (ltb 0 (getD l (neighbour g c (v .0)) 0)) (v .2) in
-              let same : isEqual g e c (v .0) ≡ true = and-left (isEqual g e c (v .0)) (eqb (suc (getD l (neighbour g c (v .0)) 0)) (getD l c 0)) first in
-              let one-less : suc (getD l (neighbour g c (v .0)) 0) ≡ getD l c 0 = eqb-true (suc (getD l (neighbour g c (v .0)) 0)) (getD l c 0) (and-right (isEqual g e c (v .0)) (eqb (suc (getD l (neighbour g c (v .0)) 0)) (getD l c 0)) first) in
-              to (v .0) (v .1) (code-of c on ∙ flat-direction g e l c d o h ∙ v .3) (equal-data g e c (v .0) same) (inr (equal-height g e c (v .0) same, omega arith))
+              let first : (isEqual g e c (v .0) && eqb (suc (getD l (neighbour g c (v .0)) 0)) (getD l c 0)) ≡ true =
+              and-left (isEqual g e c (v .0) && eqb (suc (getD l (neighbour g c (v .0)) 0)) (getD l c 0))
+              (ltb 0 (getD l (neighbour g c (v .0)) 0)) (v .2) in
+              let same : isEqual g e c (v .0) ≡ true =
+              and-left (isEqual g e c (v .0)) (eqb (suc (getD l (neighbour g c (v .0)) 0)) (getD l c 0)) first in
+              let one-less : suc (getD l (neighbour g c (v .0)) 0) ≡ getD l c 0 =
+              eqb-true (suc (getD l (neighbour g c (v .0)) 0)) (getD l c 0)
+              (and-right (isEqual g e c (v .0)) (eqb (suc (getD l (neighbour g c (v .0)) 0)) (getD l c 0)) first) in
+              to (v .0) (v .1) (code-of c on ∙ flat-direction g e l c d o h ∙ v .3) (equal-data g e c (v .0) same)
+              (inr (equal-height g e c (v .0) same, omega arith))

@@ -21,17 +21,20 @@ last? p q h = go (decLt q p)
     go (no f) = inr (omega arith)
 
 -- a cell more is counted
-count-one-more : (n : ℕ) (f h : ℕ → ℕ) (c : ℕ) → c < n → f c ≡ 0 → 1 < h c → ((y : ℕ) → (y ≡ c → ⊥) → h y ≡ f y) → countBelow n (λ y. ltb 1 (h y)) ≡ countBelow n (λ y. ltb 1 (f y)) + 1
+count-one-more : (n : ℕ) (f h : ℕ → ℕ) (c : ℕ) → c < n → f c ≡ 0 → 1 < h c → ((y : ℕ) → (y ≡ c → ⊥) → h y ≡ f y) →
+    countBelow n (λ y. ltb 1 (h y)) ≡ countBelow n (λ y. ltb 1 (f y)) + 1
 unfolding countBelow
 count-one-more n f h c l z s o =
-    let q = sum-change n (λ y. cond (ltb 1 (f y)) 1 0) (λ y. cond (ltb 1 (h y)) 1 0) c l (λ y d. ap (λ (x : ℕ). cond (ltb 1 x) 1 0) (o y d)) in
+    let q = sum-change n (λ y. cond (ltb 1 (f y)) 1 0) (λ y. cond (ltb 1 (h y)) 1 0) c l
+    (λ y d. ap (λ (x : ℕ). cond (ltb 1 x) 1 0) (o y d)) in
     let a : _≡_ {A = ℕ} (cond (ltb 1 (f c)) 1 0) 0 = cond-false 1 0 (le-ltb 1 (f c) (omega arith)) in
     let b : _≡_ {A = ℕ} (cond (ltb 1 (h c)) 1 0) 1 = cond-true 1 0 (lt-ltb 1 (h c) s) in
     omega arith
 
 -- there is room for a cell that has no level
 room-left : (n : ℕ) (f : ℕ → ℕ) (c : ℕ) → c < n → f c ≡ 0 → countBelow n (λ y. ltb 1 (f y)) < n
-room-left n f c l z = omega (arith, count-more n (λ y. ltb 1 (f y)) (λ y. true) c l (λ k q. refl) (le-ltb 1 (f c) (omega arith)) refl, count-≤ n (λ y. true))
+room-left n f c l z =
+    omega (arith, count-more n (λ y. ltb 1 (f y)) (λ y. true) c l (λ k q. refl) (le-ltb 1 (f c) (omega arith)) refl, count-≤ n (λ y. true))
 
 module _ {n : ℕ} {isZero : ℕ → Bool} {Eq : ℕ → ℕ → Type 0} (eq-back : (c d : ℕ) → Eq c d → Eq d c) (eq-on : (c d : ℕ) → Eq c d → c < n)
     {level queue : ℕ → ℕ} {seen head tail : ℕ} (S : Search n isZero Eq level queue seen head tail) where
@@ -74,7 +77,13 @@ module _ {n : ℕ} {isZero : ℕ → Bool} {Eq : ℕ → ℕ → Type 0} (eq-bac
     mk-queued i h = go (last? tail i h)
       where
         go : (i < tail) ⊎ (i ≡ tail) → (queue′ i < n) × (1 < level′ (queue′ i))
-        go (inl l) = let w = S .queued i l in let a = w .0 in let b = w .1 in let q = first i l in let r = before-last i l in (omega arith, omega arith)
+        go (inl l) =
+            let w = S .queued i l in
+            let a = w .0 in
+            let b = w .1 in
+            let q = first i l in
+            let r = before-last i l in
+            (omega arith, omega arith)
         go (inr e) = let q = at-last in rw e (rw last on, omega arith)
 
     mk-placed : (c : ℕ) → c < n → 1 < level′ c → (i : ℕ) × (i < tail + 1) × (queue′ i ≡ c)
@@ -104,12 +113,19 @@ module _ {n : ℕ} {isZero : ℕ → Bool} {Eq : ℕ → ℕ → Type 0} (eq-bac
     mk-lower : (c : ℕ) → c < n → 1 < level′ c → (d : ℕ) × Eq c d × (0 < level′ d) × (level′ c ≡ suc (level′ d))
     mk-lower c h s = go (now? c)
       where
-        go : ((c ≡ m) × (level′ c ≡ suc (level x))) ⊎ (level′ c ≡ level c) → (d : ℕ) × Eq c d × (0 < level′ d) × (level′ c ≡ suc (level′ d))
+        go : ((c ≡ m) × (level′ c ≡ suc (level x))) ⊎ (level′ c ≡ level c) →
+            (d : ℕ) × Eq c d × (0 < level′ d) × (level′ c ≡ suc (level′ d))
         go (inl w) = let k = kept x some in let q = w .1 in (x, rw (w .0) beside, omega arith, omega arith)
-        go (inr e) = let w = S .from-lower c h (omega arith) in let a = w .2 in let b = w .3 in let k = kept (w .0) a in (w .0, w .1, omega arith, omega arith)
+        go (inr e) =
+            let w = S .from-lower c h (omega arith) in
+            let a = w .2 in
+            let b = w .3 in
+            let k = kept (w .0) a in
+            (w .0, w .1, omega arith, omega arith)
 
     mk-seeds : (c y : ℕ) → Eq c y → y < seen → level′ c ≡ 1 → (0 < level′ y) × (level′ y ≤ 2)
-    mk-seeds c y b h q = let w = S .seeds c y b h (m-one c q) in let a = w .0 in let d = w .1 in let k = kept y a in (omega arith, omega arith)
+    mk-seeds c y b h q =
+        let w = S .seeds c y b h (m-one c q) in let a = w .0 in let d = w .1 in let k = kept y a in (omega arith, omega arith)
 
     mk-done : (i y : ℕ) → i < head → Eq (queue′ i) y → (0 < level′ y) × (level′ y ≤ suc (level′ (queue′ i)))
     mk-done i y h b =
@@ -160,14 +176,17 @@ module _ {n : ℕ} {isZero : ℕ → Bool} {Eq : ℕ → ℕ → Type 0} (eq-bac
         where
           pick : Dec (1 < level m) → level m ≤ suc (level (queue head))
           pick (no f) = omega arith
-          pick (yes l) = let w = S .placed m on l in let c = S .close head (w .0) (omega arith) h (w .1) in let q = ap level (w .2) in omega arith
+          pick (yes l) =
+              let w = S .placed m on l in let c = S .close head (w .0) (omega arith) h (w .1) in let q = ap level (w .2) in omega arith
 
       go : (i m : ℕ) → Eq (queue i) m → (i < head) ⊎ (i ≡ head) → (0 < level m) × (level m ≤ suc (level (queue i)))
       go i m b (inl l) = S .done i m l b
-      go i m b (inr e) = let a = all m (subst (λ (k : ℕ). Eq (queue k) m) e b) in rw e (a, low m (eq-on m (queue i) (eq-back (queue i) m b)) a)
+      go i m b (inr e) =
+          let a = all m (subst (λ (k : ℕ). Eq (queue k) m) e b) in rw e (a, low m (eq-on m (queue i) (eq-back (queue i) m b)) a)
 
   -- one cell more is looked at from the cells of level 0
-  pub looked : ((c : ℕ) → Eq c seen → level c ≡ 1 → (0 < level seen) × (level seen ≤ 2)) → Search n isZero Eq level queue (seen + 1) head tail
+  pub looked : ((c : ℕ) → Eq c seen → level c ≡ 1 → (0 < level seen) × (level seen ≤ 2)) →
+      Search n isZero Eq level queue (seen + 1) head tail
   looked all =
       record {
         zero-has = S .zero-has;

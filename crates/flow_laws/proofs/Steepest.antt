@@ -68,7 +68,9 @@ module _ (g : Grid) (e : List ℤ) (c : ℕ) where
 
   pub steepest-lower : (p : ℕ) → isSteepest g e c p ≡ true → (isData e (neighbour g c p) ≡ true) × (at e (neighbour g c p) <ℤ at e c)
   unfolding isSteepest
-  steepest-lower p q = let l = and-left (falls p) (not (beaten g e c p)) q in (and-left (isData e (neighbour g c p)) _ l, drop-lower p (and-right (isData e (neighbour g c p)) _ l))
+  steepest-lower p q =
+      let l = and-left (falls p) (not (beaten g e c p)) q in
+      (and-left (isData e (neighbour g c p)) _ l, drop-lower p (and-right (isData e (neighbour g c p)) _ l))
 
 -- ---- the order of weighted drops
 pub distance-positive : (g : Grid) (p : ℕ) → 0 < squaredDistance g p
@@ -93,7 +95,8 @@ module _ (g : Grid) where
   beats-positive : (a b : ℤ) (p q : ℕ) → ltZ (pos 0) b ≡ true → beats g a p b q ≡ true → ltZ (pos 0) a ≡ true
   unfolding beats
   beats-positive (pos zero) (pos b) p q h w =
-      let l : b * b * squaredDistance g p < 0 * 0 * squaredDistance g q = ltb-true (b * b * squaredDistance g p) (0 * 0 * squaredDistance g q) w in
+      let l : b * b * squaredDistance g p < 0 * 0 * squaredDistance g q =
+      ltb-true (b * b * squaredDistance g p) (0 * 0 * squaredDistance g q) w in
       let z : 0 * 0 * squaredDistance g q ≡ 0 = zero-mul (squaredDistance g q) in
       let y : ⊥ = omega arith in
       absurd y
@@ -105,7 +108,8 @@ module _ (g : Grid) where
   beats-trans : (a b c : ℤ) (p q r : ℕ) → ltZ (pos 0) c ≡ true → beats g a p b q ≡ true → beats g b q c r ≡ true → beats g a p c r ≡ true
   unfolding beats
   beats-trans (pos a) (pos b) (pos c) p q r h w v =
-      lt-ltb _ _ (weigh (c * c) (b * b) (a * a) (squaredDistance g r) (squaredDistance g q) (squaredDistance g p) (distance-positive g r) (distance-positive g p) (ltb-true _ _ v) (ltb-true _ _ w))
+      lt-ltb _ _ (weigh (c * c) (b * b) (a * a) (squaredDistance g r) (squaredDistance g q) (squaredDistance g p) (distance-positive g r)
+      (distance-positive g p) (ltb-true _ _ v) (ltb-true _ _ w))
   beats-trans (pos a) (pos b) (negsuc c) p q r h w v = refl
   beats-trans (pos a) (negsuc b) (pos c) p q r h w v = true-false v refl
   beats-trans (pos a) (negsuc b) (negsuc c) p q r h w v = refl
@@ -138,7 +142,12 @@ module _ (g : Grid) (e : List ℤ) (c : ℕ) where
       p = B .place
 
       kept : wins k p ≡ false → BestTo (suc k)
-      kept f = record { place = p; small = B .small; down = B .down; best = λ q l. ⊎-elim (λ i. B .best q i) (λ i. subst (λ (x : ℕ). wins x p ≡ false) (sym i) f) (last? k q (omega arith)) }
+      kept f = record {
+        place = p;
+        small = B .small;
+        down = B .down;
+        best = λ q l. ⊎-elim (λ i. B .best q i) (λ i. subst (λ (x : ℕ). wins x p ≡ false) (sym i) f) (last? k q (omega arith));
+      }
 
       above : ltZ (pos 0) (drop g e c p) ≡ true
       above = and-right (isData e (neighbour g c p)) (ltZ (pos 0) (drop g e c p)) (B .down)
@@ -149,7 +158,12 @@ module _ (g : Grid) (e : List ℤ) (c : ℕ) where
             place = k;
             small = h;
             down = and-true (and-left (isData e (neighbour g c k)) (beats g (drop g e c k) k (drop g e c p) p) t) up;
-            best = λ q l. ⊎-elim (λ i. loses q i) (λ i. not-true-false (wins q k) (λ w. true-false (and-right (isData e (neighbour g c q)) (beats g (drop g e c q) q (drop g e c k) k) w) (subst (λ (x : ℕ). beats g (drop g e c x) x (drop g e c k) k ≡ false) (sym i) (beats-not-itself g (drop g e c k) k)))) (last? k q (omega arith));
+            best =
+                λ q l. ⊎-elim (λ i. loses q i)
+                (λ i. not-true-false (wins q k)
+                (λ w. true-false (and-right (isData e (neighbour g c q)) (beats g (drop g e c q) q (drop g e c k) k) w)
+                (subst (λ (x : ℕ). beats g (drop g e c x) x (drop g e c k) k ≡ false) (sym i) (beats-not-itself g (drop g e c k) k))))
+                (last? k q (omega arith));
           }
         where
           over : beats g (drop g e c k) k (drop g e c p) p ≡ true
@@ -161,7 +175,9 @@ module _ (g : Grid) (e : List ℤ) (c : ℕ) where
           loses : (q : ℕ) → q < k → wins q k ≡ false
           loses q i =
               not-true-false (wins q k)
-              (λ w. true-false (and-true (and-left (isData e (neighbour g c q)) (beats g (drop g e c q) q (drop g e c k) k) w) (beats-trans g (drop g e c q) (drop g e c k) (drop g e c p) q k p above (and-right (isData e (neighbour g c q)) (beats g (drop g e c q) q (drop g e c k) k) w) over)) (B .best q i))
+              (λ w. true-false (and-true (and-left (isData e (neighbour g c q)) (beats g (drop g e c q) q (drop g e c k) k) w)
+              (beats-trans g (drop g e c q) (drop g e c k) (drop g e c p) q k p above
+              (and-right (isData e (neighbour g c q)) (beats g (drop g e c q) q (drop g e c k) k) w) over)) (B .best q i))
 
   best-to : (k : ℕ) → k ≤ 8 → BestTo 0 → BestTo k
   best-to zero h B = B
@@ -171,9 +187,17 @@ module _ (g : Grid) (e : List ℤ) (c : ℕ) where
   unfolding isSteepest beaten wins
   some-steepest h =
       let w = descent-some g e c h in
-      let B = best-to 8 (omega arith) (record { place = w .0; small = w .1; down = w .2; best = λ q l. let z : ⊥ = omega arith in absurd z }) in
-      (B .place, B .small, and-true (B .down) (not-of-false (none-of 8 (λ q. isData e (neighbour g c q) && beats g (drop g e c q) q (drop g e c (B .place)) (B .place)) (B .best))))
+      let B =
+      best-to 8 (omega arith)
+      (record { place = w .0; small = w .1; down = w .2; best = λ q l. let z : ⊥ = omega arith in absurd z }) in (
+        B .place,
+        B .small,
+        and-true (B .down)
+            (not-of-false (none-of 8 (λ q. isData e (neighbour g c q) && beats g (drop g e c q) q (drop g e c (B .place)) (B .place))
+            (B .best))),
+      )
 
   pub no-descent-none : hasDescent g e c ≡ false → (p : ℕ) → p < 8 → isSteepest g e c p ≡ false
   unfolding isSteepest hasDescent
-  no-descent-none f p b = Rattle.grid_laws.proofs.Tests.and-false-left (not (beaten g e c p)) (Rattle.grid_laws.proofs.Below.no-of-any 8 (falls g e c) f p b)
+  no-descent-none f p b =
+      Rattle.grid_laws.proofs.Tests.and-false-left (not (beaten g e c p)) (Rattle.grid_laws.proofs.Below.no-of-any 8 (falls g e c) f p b)

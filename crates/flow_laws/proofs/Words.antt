@@ -35,10 +35,12 @@ unfolding wordLevel
 level-more w h = cond-false 0 (cond (ltb w 256) 1 (w - 254)) (ne-eqb w 0 (λ q. omega arith)) ∙ cond-false 1 (w - 254) (le-ltb w 256 h)
 
 -- what a word is, with its level
-pub word-cases : (w : ℕ) → ((w ≡ 0) × (wordLevel w ≡ 0)) ⊎ (((0 < w) × (w < 256) × (wordLevel w ≡ 1)) ⊎ ((256 ≤ w) × (wordLevel w ≡ w - 254)))
+pub word-cases : (w : ℕ) → ((w ≡ 0) × (wordLevel w ≡ 0))
+    ⊎ (((0 < w) × (w < 256) × (wordLevel w ≡ 1)) ⊎ ((256 ≤ w) × (wordLevel w ≡ w - 254)))
 word-cases w = go (ℕ-discrete w 0) (decLt w 256)
   where
-    go : Dec (w ≡ 0) → Dec (w < 256) → ((w ≡ 0) × (wordLevel w ≡ 0)) ⊎ (((0 < w) × (w < 256) × (wordLevel w ≡ 1)) ⊎ ((256 ≤ w) × (wordLevel w ≡ w - 254)))
+    go : Dec (w ≡ 0) → Dec (w < 256) →
+        ((w ≡ 0) × (wordLevel w ≡ 0)) ⊎ (((0 < w) × (w < 256) × (wordLevel w ≡ 1)) ⊎ ((256 ≤ w) × (wordLevel w ≡ w - 254)))
     go (yes q) d = inl (q, level-none w q)
     go (no f) (yes h) = let p : 0 < w = omega arith in inr (inl (p, h, level-one w p h))
     go (no f) (no k) = let p : 256 ≤ w = omega arith in inr (inr (p, level-more w p))
@@ -54,7 +56,8 @@ word-none w q = go (word-cases w)
 pub word-some : (w : ℕ) → 0 < w → 0 < wordLevel w
 word-some w h = go (word-cases w)
   where
-    go : ((w ≡ 0) × (wordLevel w ≡ 0)) ⊎ (((0 < w) × (w < 256) × (wordLevel w ≡ 1)) ⊎ ((256 ≤ w) × (wordLevel w ≡ w - 254))) → 0 < wordLevel w
+    go : ((w ≡ 0) × (wordLevel w ≡ 0)) ⊎ (((0 < w) × (w < 256) × (wordLevel w ≡ 1)) ⊎ ((256 ≤ w) × (wordLevel w ≡ w - 254))) →
+        0 < wordLevel w
     go (inl a) = let b = a .0 in let z : ⊥ = omega arith in absurd z
     go (inr (inl a)) = let b = a .2 in omega arith
     go (inr (inr a)) = let b = a .1 in let d = a .0 in omega arith
@@ -62,7 +65,8 @@ word-some w h = go (word-cases w)
 pub word-one : (w : ℕ) → wordLevel w ≡ 1 → (0 < w) × (w < 256)
 word-one w q = go (word-cases w)
   where
-    go : ((w ≡ 0) × (wordLevel w ≡ 0)) ⊎ (((0 < w) × (w < 256) × (wordLevel w ≡ 1)) ⊎ ((256 ≤ w) × (wordLevel w ≡ w - 254))) → (0 < w) × (w < 256)
+    go : ((w ≡ 0) × (wordLevel w ≡ 0)) ⊎ (((0 < w) × (w < 256) × (wordLevel w ≡ 1)) ⊎ ((256 ≤ w) × (wordLevel w ≡ w - 254))) →
+        (0 < w) × (w < 256)
     go (inl a) = let b = a .1 in let z : ⊥ = omega arith in absurd z
     go (inr (inl a)) = (a .0, a .1)
     go (inr (inr a)) = let b = a .1 in let d = a .0 in let z : ⊥ = omega arith in absurd z
@@ -70,7 +74,8 @@ word-one w q = go (word-cases w)
 pub word-more : (w : ℕ) → 1 < wordLevel w → (256 ≤ w) × (wordLevel w ≡ w - 254)
 word-more w q = go (word-cases w)
   where
-    go : ((w ≡ 0) × (wordLevel w ≡ 0)) ⊎ (((0 < w) × (w < 256) × (wordLevel w ≡ 1)) ⊎ ((256 ≤ w) × (wordLevel w ≡ w - 254))) → (256 ≤ w) × (wordLevel w ≡ w - 254)
+    go : ((w ≡ 0) × (wordLevel w ≡ 0)) ⊎ (((0 < w) × (w < 256) × (wordLevel w ≡ 1)) ⊎ ((256 ≤ w) × (wordLevel w ≡ w - 254))) →
+        (256 ≤ w) × (wordLevel w ≡ w - 254)
     go (inl a) = let b = a .1 in let z : ⊥ = omega arith in absurd z
     go (inr (inl a)) = let b = a .2 in let z : ⊥ = omega arith in absurd z
     go (inr (inr a)) = a
@@ -88,7 +93,9 @@ module _ (n half tail m v : ℕ) (work : List ℕ) (hn : n ≤ half) (hl : half 
   words-stored = take-set-le n (set work m v) (half + tail) m (omega arith) ∙ take-set-lt n work m v hm
 
   pub level-here : levelIn n stored m ≡ wordLevel v
-  level-here = ap (λ (l : List ℕ). wordLevel (getD l m 0)) words-stored ∙ ap wordLevel (getD-set-same (take n work) m v 0 (rw (length-take-le n work (omega arith)) hm))
+  level-here =
+      ap (λ (l : List ℕ). wordLevel (getD l m 0)) words-stored
+      ∙ ap wordLevel (getD-set-same (take n work) m v 0 (rw (length-take-le n work (omega arith)) hm))
 
   pub word-other : (y : ℕ) → (y ≡ m → ⊥) → getD (take n stored) y 0 ≡ getD (take n work) y 0
   word-other y d = ap (λ (l : List ℕ). getD l y 0) words-stored ∙ getD-set-other (take n work) m y v 0 d
@@ -97,10 +104,13 @@ module _ (n half tail m v : ℕ) (work : List ℕ) (hn : n ≤ half) (hl : half 
   queue-last = getD-set-same (set work m v) (half + tail) m 0 (rw (lib.ListN.length-set work m v) (omega arith))
 
   pub queue-first : (i : ℕ) → i < tail → queueIn half stored i ≡ queueIn half work i
-  queue-first i h = getD-set-other (set work m v) (half + tail) (half + i) m 0 (λ q. omega arith) ∙ getD-set-other work m (half + i) v 0 (λ q. omega arith)
+  queue-first i h =
+      getD-set-other (set work m v) (half + tail) (half + i) m 0 (λ q. omega arith)
+      ∙ getD-set-other work m (half + i) v 0 (λ q. omega arith)
 
 -- ---- the search over the work buffer
-module _ (g : Grid) (e : List ℤ) (len : length e ≡ size g) (half : ℕ) (work : List ℕ) {seen head tail : ℕ} (S : Searching g e half work seen head tail) where
+module _ (g : Grid) (e : List ℤ) (len : length e ≡ size g) (half : ℕ) (work : List ℕ) {seen head tail : ℕ}
+    (S : Searching g e half work seen head tail) where
   pub searching-most : tail ≤ size g
   searching-most = search-most (equal-back g e len) (equal-on g e len) (S .search)
 
@@ -114,20 +124,25 @@ module _ (g : Grid) (e : List ℤ) (len : length e ≡ size g) (half : ℕ) (wor
   pub searching-few : (c : ℕ) → c < size g → levelIn (size g) work c ≤ size g
   searching-few c h =
       few-levels (size g) (levelIn (size g) work)
-      (λ d k i q. let w = S .search .from-lower d i (omega arith) in let b = w .3 in (w .0, equal-on g e len (w .0) d (equal-back g e len d (w .0) (w .1)), omega arith)) c h
+      (λ d k i q. let w = S .search .from-lower d i (omega arith) in let b = w .3 in
+      (w .0, equal-on g e len (w .0) d (equal-back g e len d (w .0) (w .1)), omega arith)) c h
 
   pub searching-small : (c : ℕ) → c < size g → getD work c 0 < size g + 256
   searching-small c h = rw (word-here c h) (go (word-cases (getD (take (size g) work) c 0)))
     where
-      go : ((getD (take (size g) work) c 0 ≡ 0) × (levelIn (size g) work c ≡ 0)) ⊎ (((0 < getD (take (size g) work) c 0) × (getD (take (size g) work) c 0 < 256) × (levelIn (size g) work c ≡ 1)) ⊎ ((256 ≤ getD (take (size g) work) c 0) × (levelIn (size g) work c ≡ getD (take (size g) work) c 0 - 254)))
+      go : ((getD (take (size g) work) c 0 ≡ 0) × (levelIn (size g) work c ≡ 0))
+          ⊎ (((0 < getD (take (size g) work) c 0) × (getD (take (size g) work) c 0 < 256) × (levelIn (size g) work c ≡ 1))
+          ⊎ ((256 ≤ getD (take (size g) work) c 0) × (levelIn (size g) work c ≡ getD (take (size g) work) c 0 - 254)))
           → getD (take (size g) work) c 0 < size g + 256
       go (inl a) = let b = a .0 in omega arith
       go (inr (inl a)) = let b = a .1 in omega arith
       go (inr (inr a)) = let b = a .1 in let f = searching-few c h in omega arith
 
   -- a cell without a level is marked beside x, an equal neighbour of it
-  module _ (hn : size g ≤ half) (hl : half + size g ≤ length work) (m x v : ℕ) (hm : m < size g) (none : getD work m 0 ≡ 0) (beside : Equal g e m x) (some : 0 < levelIn (size g) work x)
-      (up : wordLevel v ≡ suc (levelIn (size g) work x)) (above : (j : ℕ) → j < tail → levelIn (size g) work (queueIn half work j) ≤ suc (levelIn (size g) work x))
+  module _ (hn : size g ≤ half) (hl : half + size g ≤ length work) (m x v : ℕ) (hm : m < size g) (none : getD work m 0 ≡ 0)
+      (beside : Equal g e m x) (some : 0 < levelIn (size g) work x)
+      (up : wordLevel v ≡ suc (levelIn (size g) work x))
+      (above : (j : ℕ) → j < tail → levelIn (size g) work (queueIn half work j) ≤ suc (levelIn (size g) work x))
       (under : (i : ℕ) → head ≤ i → i < tail → levelIn (size g) work x ≤ levelIn (size g) work (queueIn half work i)) where
     room : tail < size g
     room = searching-room m hm none
@@ -152,5 +167,6 @@ module _ (g : Grid) (e : List ℤ) (len : length e ≡ size g) (half : ℕ) (wor
         zero-other c h z q = let a = S .search .zero-has c h z in let b = ap (levelIn (size g) work) q in let d = no-level in omega arith
 
 -- ---- the end
-pub levelled : (g : Grid) (e : List ℤ) → length e ≡ size g → (half : ℕ) (work : List ℕ) {seen head tail : ℕ} → Searching g e half work seen head tail → size g ≤ seen → tail ≤ head → Levelled g e work
+pub levelled : (g : Grid) (e : List ℤ) → length e ≡ size g → (half : ℕ) (work : List ℕ) {seen head tail : ℕ} →
+    Searching g e half work seen head tail → size g ≤ seen → tail ≤ head → Levelled g e work
 levelled g e len half work S hs ht = record { certified = search-levels g e len (S .search) hs ht; coded = S .coded }

@@ -1,4 +1,5 @@
--- The state of the breadth-first search for levels. With no geometry: what level 0 is, which cells are equal neighbours, what level and queue hold.
+-- The state of the breadth-first search for levels. With no geometry: what level 0 is, which cells are equal neighbours, what level and
+-- queue hold.
 use mathlib.Core.Path.{_≡_}
 use mathlib.Core.Bool.{Bool, true}
 use mathlib.Core.List.{List}
@@ -18,8 +19,8 @@ pub record Equal (g : Grid) (e : List ℤ) (c d : ℕ) : Type 0 where
   pub there : neighbour g c position ≡ d
   pub equal : isEqual g e c position ≡ true
 
--- The first `tail` places of the queue hold the cells of level 1 and more, by rising level; those before `head` have given a level to each equal neighbour,
--- and so have the cells of level 0, to those below `seen`.
+-- The first `tail` places of the queue hold the cells of level 1 and more, by rising level; those before `head` have given a level to each
+-- equal neighbour, and so have the cells of level 0, to those below `seen`.
 pub record Search (n : ℕ) (isZero : ℕ → Bool) (Eq : ℕ → ℕ → Type 0) (level queue : ℕ → ℕ) (seen head tail : ℕ) : Type 0 where
   pub zero-has : (c : ℕ) → c < n → isZero c ≡ true → level c ≡ 1
   pub one-is : (c : ℕ) → c < n → level c ≡ 1 → isZero c ≡ true

@@ -40,7 +40,8 @@ module _ (g : Grid) (e : List ℤ) (half : ℕ) (work : List ℕ) (S : Seeded g 
   level-at c h = ⊎-elim yes′ no′ (test (isLevelZero g e c))
     where
       yes′ : isLevelZero g e c ≡ true → levelIn (size g) work c ≡ cond (isLevelZero g e c) 1 0
-      yes′ z = let q = word-zero c h z in let r = zero-code-range g e c z in level-one _ (rw q (r .0)) (rw q (r .1)) ∙ sym (cond-true 1 0 z)
+      yes′ z =
+          let q = word-zero c h z in let r = zero-code-range g e c z in level-one _ (rw q (r .0)) (rw q (r .1)) ∙ sym (cond-true 1 0 z)
 
       no′ : isLevelZero g e c ≡ false → levelIn (size g) work c ≡ cond (isLevelZero g e c) 1 0
       no′ z = level-none _ (word-flat c h z) ∙ sym (cond-false 1 0 z)

@@ -1,8 +1,8 @@
 // Levels (document 01, "Directions"): how far each cell of a flat is from a cell of level 0, in steps to equal neighbours. Given the words
-// of the cells of level 0 it finds all others in linear time, breadth first: one look at each cell for level 1, then the queue, whose cells
-// stand by rising level, so that a cell is marked by the lowest of its equal neighbours. "The queue of waiting cells lies in the second
-// half of the lent work buffer", lent on as its tail. A data cell that is not at level 0 is no outlet, so it lies within the border, and
-// its neighbours at fixed distances. Proved by the certificate of `flow_laws`: each loop keeps the state `Searching`.
+// of the cells of level 0 it finds all others in linear time, breadth first: one look at each cell for level 1, then the queue, whose
+// cells stand by rising level, so that a cell is marked by the lowest of its equal neighbours. "The queue of waiting cells lies in the
+// second half of the lent work buffer", lent on as its tail. A data cell that is not at level 0 is no outlet, so it lies within the
+// border, and its neighbours at fixed distances. Proved by the certificate of `flow_laws`: each loop keeps the state `Searching`.
 use cells::beside;
 use cells::key;
 use grid::Grid;

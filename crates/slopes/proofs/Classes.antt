@@ -1,24 +1,25 @@
--- The largest weighted drop by the lowest side and the lowest corner: the four positions of a class are equally far, so that its lowest key has its
--- largest drop, and a position has the largest of all eight exactly where it is the lowest of its class and its class is not beaten by the other.
+-- The largest weighted drop by the lowest side and the lowest corner: the four positions of a class are equally far, so that its lowest
+-- key has its largest drop, and a position has the largest of all eight exactly where it is the lowest of its class and its class is not
+-- beaten by the other.
 use mathlib.Core.Path.{_≡_, refl, sym, _∙_, ap, ap₂, subst}
-use mathlib.Core.Bool.{Bool, true, false, not, cond, _&&_, _||_}
+use mathlib.Core.Bool.{Bool, true, false, not, cond, _&&_}
 use mathlib.Core.Logic.{_⊎_, inl, inr, ⊎-elim}
 use mathlib.Core.List.{List}
 use Prim.Native.Nat.{ℕ, _+_, _-_, _*_, _%_, _≤_, _<_}
 use native.Mathlib.Nat.{mul-le-mul, mul-le-mul-right, le-of-mul-le-mul-right, mul-lt-mul-of-pos-right}
-use native.Mathlib.Decide.{decLt, ℕ-discrete}
+use native.Mathlib.Decide.{decLt}
 use native.Mathlib.Omega.{arith}
 use lib.Dec.{eqb, ltb, lit<}
 use lib.ListN.{getD}
-use borrow.Author.Tests.{ltb-true, ltb-false, lt-ltb, le-ltb, eqb-true, eq-eqb, ne-eqb}
+use borrow.Author.Tests.{ltb-true, ltb-false, lt-ltb, le-ltb, eqb-true, eq-eqb}
 use Rattle.grid.specs.declared.Grid.{Grid}
 use Rattle.grid.specs.Below.{anyBelow, sumBelow}
 use Rattle.grid.specs.Sheet.{codeAt}
 use Rattle.grid.specs.Directions.{squaredDistance}
-use Rattle.grid_laws.proofs.Tests.{test, true-false, and-true, and-left, and-right, or-left, or-right, or-cases, or-false}
-use Rattle.grid_laws.proofs.Tests.{not-of-false, not-is-true, not-true-false, cond-true, cond-false, same-test}
+use Rattle.grid_laws.proofs.Tests.{test, true-false, and-true, and-left, and-right, or-left, or-right, or-cases}
+use Rattle.grid_laws.proofs.Tests.{not-of-false, not-is-true, cond-true, cond-false, same-test}
 use Rattle.grid_laws.proofs.Neighbours.{at-eight}
-use Rattle.grid_laws.proofs.Below.{any-of, some-of-any, no-of-any, none-of, sum-suc, sum-zero, sum-ext}
+use Rattle.grid_laws.proofs.Below.{any-of, some-of-any, no-of-any, none-of}
 use Rattle.slopes.specs.Steepest.{squareAt, unbeaten, steepestIn, anyVoid, markedIn, lowerOf, lowestOf, membersOf}
 use Rattle.slopes.specs.Steepest.{lowSide, lowCorner, sideCodes, cornerCodes, leadsOf, largerOf}
 use Rattle.slopes.proofs.Largest.{apart}
@@ -147,7 +148,11 @@ module _ (g : Grid) (own : ℕ) (l : List ℕ) (mine : ℕ → Bool) (t u : Bool
       where
         not-beaten : b * b * d ≤ a * a * f
         not-beaten =
-            omega (arith, ltb-false (a * a * f) (b * b * d) (not-is-true (ltb (a * a * f) (b * b * d)) (and-right (ltb 0 a) (not (ltb (a * a * f) (b * b * d))) lead)))
+            omega (
+              arith,
+              ltb-false (a * a * f) (b * b * d)
+                  (not-is-true (ltb (a * a * f) (b * b * d)) (and-right (ltb 0 a) (not (ltb (a * a * f) (b * b * d))) lead)),
+            )
 
         mine-r : mine r ≡ t → squareAt own l r * squaredDistance g q ≤ squareAt own l q * squaredDistance g r
         mine-r h =
@@ -167,7 +172,9 @@ module _ (g : Grid) (own : ℕ) (l : List ℕ) (mine : ℕ → Bool) (t u : Bool
         leads-there : unbeaten g own l q ≡ true → (leading && eqb (getD l q 0) low) ≡ true
         leads-there u =
             let falls = ltb-true (getD l q 0) own (and-left (ltb (getD l q 0) own) (not (anyBelow 8 (over q))) u) in
-            let none = no-of-any 8 (over q) (not-is-true (anyBelow 8 (over q)) (and-right (ltb (getD l q 0) own) (not (anyBelow 8 (over q))) u)) in
+            let none =
+            no-of-any 8 (over q)
+            (not-is-true (anyBelow 8 (over q)) (and-right (ltb (getD l q 0) own) (not (anyBelow 8 (over q))) u)) in
             let here = lowest-of-class falls none in
             and-true (class-leads falls here none) (eq-eqb (getD l q 0) low here)
 
@@ -213,7 +220,8 @@ larger-is g a b sides corners p q u v = rw (u, v, p, q) refl
 by-class : (s c : Bool) (t0 t1 t2 t3 t4 t5 t6 t7 : Bool) →
     cond (c && t0) 1 0 + cond (s && t1) 2 0 + cond (c && t2) 4 0 + cond (s && t3) 8 0 + cond (c && t4) 16 0 + cond (s && t5) 32 0
     + cond (c && t6) 64 0 + cond (s && t7) 128 0
-    ≡ cond s (2 * (cond t1 1 0 + cond t3 4 0 + cond t5 16 0 + cond t7 64 0)) 0 + cond c (cond t0 1 0 + cond t2 4 0 + cond t4 16 0 + cond t6 64 0) 0
+    ≡ cond s (2 * (cond t1 1 0 + cond t3 4 0 + cond t5 16 0 + cond t7 64 0)) 0
+    + cond c (cond t0 1 0 + cond t2 4 0 + cond t4 16 0 + cond t6 64 0) 0
 by-class true true t0 t1 t2 t3 t4 t5 t6 t7 = omega (arith, twice t1 1, twice t3 4, twice t5 16, twice t7 64)
 by-class true false t0 t1 t2 t3 t4 t5 t6 t7 = omega (arith, twice t1 1, twice t3 4, twice t5 16, twice t7 64)
 by-class false true t0 t1 t2 t3 t4 t5 t6 t7 = omega arith
@@ -237,7 +245,8 @@ module _ (g : Grid) (own : ℕ) (l : List ℕ) where
   unfolding isSide squaredDistance
   sides =
       record {
-        least = at-eight (λ q. isSide q ≡ true → (lowSide l) ≤ k q) (λ h. true-false h refl) (λ h. side-low .first) (λ h. true-false h refl)
+        least =
+            at-eight (λ q. isSide q ≡ true → (lowSide l) ≤ k q) (λ h. true-false h refl) (λ h. side-low .first) (λ h. true-false h refl)
             (λ h. side-low .second) (λ h. true-false h refl) (λ h. side-low .third) (λ h. true-false h refl) (λ h. side-low .fourth);
         far = at-eight (λ q. isSide q ≡ true → squaredDistance g q ≡ squaredDistance g 1) (λ h. true-false h refl) (λ h. refl)
             (λ h. true-false h refl) (λ h. refl) (λ h. true-false h refl) (λ h. refl) (λ h. true-false h refl) (λ h. refl);
@@ -250,7 +259,9 @@ module _ (g : Grid) (own : ℕ) (l : List ℕ) where
   unfolding isSide squaredDistance
   corners =
       record {
-        least = at-eight (λ q. isSide q ≡ false → (lowCorner l) ≤ k q) (λ h. corner-low .first) (λ h. true-false refl h) (λ h. corner-low .second)
+        least =
+            at-eight (λ q. isSide q ≡ false → (lowCorner l) ≤ k q) (λ h. corner-low .first) (λ h. true-false refl h)
+            (λ h. corner-low .second)
             (λ h. true-false refl h) (λ h. corner-low .third) (λ h. true-false refl h) (λ h. corner-low .fourth) (λ h. true-false refl h);
         far = at-eight (λ q. isSide q ≡ false → squaredDistance g q ≡ squaredDistance g 0) (λ h. refl) (λ h. true-false refl h) (λ h. refl)
             (λ h. true-false refl h) (λ h. refl) (λ h. true-false refl h) (λ h. refl) (λ h. true-false refl h);
@@ -267,11 +278,13 @@ module _ (g : Grid) (own : ℕ) (l : List ℕ) where
 
   side-unbeaten : (q : ℕ) → q < 8 → isSide q ≡ true → unbeaten g own l q ≡ (sidesLead && eqb (k q) (lowSide l))
   side-unbeaten q h s =
-      unbeaten-is g own l isSide true false (λ r. test (isSide r)) (lowSide l) (lowCorner l) (squaredDistance g 1) (squaredDistance g 0) sides corners q h s
+      unbeaten-is g own l isSide true false (λ r. test (isSide r)) (lowSide l) (lowCorner l) (squaredDistance g 1) (squaredDistance g 0)
+      sides corners q h s
 
   corner-unbeaten : (q : ℕ) → q < 8 → isSide q ≡ false → unbeaten g own l q ≡ (cornersLead && eqb (k q) (lowCorner l))
   corner-unbeaten q h s =
-      unbeaten-is g own l isSide false true (λ r. ⊎-elim inr inl (test (isSide r))) (lowCorner l) (lowSide l) (squaredDistance g 0) (squaredDistance g 1)
+      unbeaten-is g own l isSide false true (λ r. ⊎-elim inr inl (test (isSide r))) (lowCorner l) (lowSide l) (squaredDistance g 0)
+      (squaredDistance g 1)
       corners sides q h s
 
   code : ℕ → ℕ
@@ -285,7 +298,8 @@ module _ (g : Grid) (own : ℕ) (l : List ℕ) where
   unfolding code
   corner-code q n h s e = ap₂ (λ (t : Bool) (x : ℕ). cond t x 0) (corner-unbeaten q h s) e
 
-  pub largest-is : largerOf g (own - lowSide l) (sideCodes l (lowSide l)) (own - lowCorner l) (cornerCodes l (lowCorner l)) ≡ steepestIn g own l
+  pub largest-is : largerOf g (own - lowSide l) (sideCodes l (lowSide l)) (own - lowCorner l) (cornerCodes l (lowCorner l))
+      ≡ steepestIn g own l
   unfolding steepestIn largerOf isSide code
   largest-is =
       let c0 = corner-code 0 1 (lit< tt) refl refl in
@@ -296,7 +310,8 @@ module _ (g : Grid) (own : ℕ) (l : List ℕ) where
       let s5 = side-code 5 32 (lit< tt) refl refl in
       let c6 = corner-code 6 64 (lit< tt) refl refl in
       let s7 = side-code 7 128 (lit< tt) refl refl in
-      let whole = by-class sidesLead cornersLead (eqb (k 0) (lowCorner l)) (eqb (k 1) (lowSide l)) (eqb (k 2) (lowCorner l)) (eqb (k 3) (lowSide l))
+      let whole = by-class sidesLead cornersLead (eqb (k 0) (lowCorner l)) (eqb (k 1) (lowSide l)) (eqb (k 2) (lowCorner l))
+      (eqb (k 3) (lowSide l))
       (eqb (k 4) (lowCorner l)) (eqb (k 5) (lowSide l)) (eqb (k 6) (lowCorner l)) (eqb (k 7) (lowSide l)) in
       omega (arith, sum-of-eight code, whole, c0, s1, c2, s3, c4, s5, c6, s7)
 
@@ -317,7 +332,10 @@ module _ (g : Grid) (own : ℕ) (l : List ℕ) where
       there : eqb x 0 ≡ true → anyVoid own l ≡ true
       there h =
           let z = eqb-true x 0 h in
-          ⊎-elim (λ q. or-right (eqb own 0) (⊎-elim (λ r. around false corners (sym r ∙ sym q ∙ sym e ∙ z)) (λ r. around true sides (sym r ∙ sym q ∙ sym e ∙ z)) (inner .2)))
+          ⊎-elim
+          (λ q. or-right (eqb own 0)
+          (⊎-elim (λ r. around false corners (sym r ∙ sym q ∙ sym e ∙ z)) (λ r. around true sides (sym r ∙ sym q ∙ sym e ∙ z))
+          (inner .2)))
           (λ q. or-left (anyBelow 8 (λ q. eqb (k q) 0)) (eq-eqb own 0 (sym q ∙ sym e ∙ z))) (outer .2)
 
       zero-low : (q : ℕ) → q < 8 → k q ≡ 0 → lowerOf (lowCorner l) (lowSide l) ≡ 0
@@ -339,7 +357,8 @@ module _ (g : Grid) (own : ℕ) (l : List ℕ) where
       sides ≡ sideCodes l side → corners ≡ cornerCodes l corner → r ≡ largerOf g a sides b corners → r ≡ steepestIn g own l
   steepest-by e1 e2 ea eb es ec er = er ∙ rw (ea, eb, es, ec, e1, e2) largest-is
 
-  pub marked-by : {corner side low x sum r : ℕ} → corner ≡ lowCorner l → side ≡ lowSide l → low ≡ lowerOf corner side → x ≡ lowerOf low own →
+  pub marked-by : {corner side low x sum r : ℕ} → corner ≡ lowCorner l → side ≡ lowSide l → low ≡ lowerOf corner side →
+      x ≡ lowerOf low own →
       sum ≡ steepestIn g own l → r ≡ cond (eqb x 0) 256 sum → r ≡ markedIn g own l
   unfolding markedIn
   marked-by {x = x} ec es el ex em er =

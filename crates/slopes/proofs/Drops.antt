@@ -1,7 +1,7 @@
 -- Drops as differences of keys: the definitions over the keys around a cell.
 use mathlib.Core.Path.{_≡_, refl, sym, _∙_, ap, ap₂, subst}
 use mathlib.Core.Bool.{Bool, true, false, not, cond, _&&_, _||_}
-use mathlib.Core.Logic.{_⊎_, ⊎-elim}
+use mathlib.Core.Logic.{⊎-elim}
 use mathlib.Core.List.{List}
 use Prim.Native.Nat.{ℕ, zero, suc, _+_, _-_, _*_, _≤_, _<_}
 use native.Mathlib.Nat.{zero-mul}
@@ -19,7 +19,7 @@ use Rattle.grid.specs.Below.{anyBelow}
 use Rattle.grid.specs.Sheet.{size, void, top, at, isData, neighbour, codeAt}
 use Rattle.grid.specs.Outlet.{leavesAt, isOutlet}
 use Rattle.grid.specs.Directions.{drop, squaredDistance, beats, beaten, isSteepest, steepestSum}
-use Rattle.grid_laws.proofs.Tests.{test, and-false-left, and-false-right, cond-true, cond-false, or-none-left, or-none-right}
+use Rattle.grid_laws.proofs.Tests.{test, and-false-left, cond-true, cond-false, or-none-right}
 use Rattle.grid_laws.proofs.Below.{any-ext, no-of-any, sum-ext, is-table, at-table}
 use Rattle.cells.specs.Keys.{keyOf}
 use Rattle.cells.specs.Around.{KnownTo}
@@ -27,8 +27,10 @@ use Rattle.cells.proofs.Keys.{Known, data-key, zero-key, key-falls, key-drop, k
 use Rattle.cells.proofs.Codes.{leaves-key}
 use Rattle.slopes.specs.Steepest.{keysOf, squareAt, unbeaten, steepestIn, anyVoid, markedIn, innerSum}
 
--- the definition of the larger weighted drop, for drops that are not negative, is a comparison of products: what the function `beats` works out
-pub beats-products : (g : Grid) (a b q p : ℕ) → beats g (pos a) q (pos b) p ≡ ltb (b * b * squaredDistance g q) (a * a * squaredDistance g p)
+-- the definition of the larger weighted drop, for drops that are not negative, is a comparison of products: what the function `beats`
+-- works out
+pub beats-products : (g : Grid) (a b q p : ℕ) →
+    beats g (pos a) q (pos b) p ≡ ltb (b * b * squaredDistance g q) (a * a * squaredDistance g p)
 unfolding beats
 beats-products g a b q p = refl
 
@@ -121,7 +123,8 @@ module _ (g : Grid) (e : List ℤ) (c : ℕ) (known : KnownTo g e c 8) where
         go : Dec (own < key q) → beats g (drop g e c q) q (drop g e c p) p ≡ over p q
         go (yes k) =
             ap₂ (λ (x y : ℤ). beats g x q y p) (drop-up q hq k) down ∙ up-loses g (key q - suc own) (own - getD l p 0) q p
-            ∙ sym (nothing-over (own - getD l q 0) (squaredDistance g p) (squareAt own l p * squaredDistance g q) (omega (arith, around q hq)))
+            ∙ sym (nothing-over (own - getD l q 0) (squaredDistance g p) (squareAt own l p * squaredDistance g q)
+            (omega (arith, around q hq)))
         go (no k) =
             ap₂ (λ (x y : ℤ). beats g x q y p) (drop-down q hq (omega arith)) down
             ∙ beats-products g (own - getD l q 0) (own - getD l p 0) q p
@@ -168,7 +171,8 @@ module _ (g : Grid) (e : List ℤ) (c : ℕ) (known : KnownTo g e c 8) where
 
         positive : (q : ℕ) → anyVoid (keyOf (at e c)) l ≡ false → q < 8 → 0 < key q
         positive q t h =
-            let none = no-of-any 8 (λ r. eqb (getD l r 0) 0) (or-none-right (eqb (keyOf (at e c)) 0) (anyBelow 8 (λ r. eqb (getD l r 0) 0)) t) q h in
+            let none = no-of-any 8 (λ r. eqb (getD l r 0) 0)
+            (or-none-right (eqb (keyOf (at e c)) 0) (anyBelow 8 (λ r. eqb (getD l r 0) 0)) t) q h in
             above (key q) (λ z. eqb-false (getD l q 0) 0 none (around q h ∙ z))
           where
             above : (x : ℕ) → (x ≡ 0 → ⊥) → 0 < x

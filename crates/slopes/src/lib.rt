@@ -1,7 +1,8 @@
-// Drops to the neighbours of a cell ("Directions"): which is the largest when weighted by distance, the sum of the codes that have it, and the
-// table that chooses one code for each sum. The comparison is one of products of 64 bits. Four sides are equally far, and so are four corners:
-// the lowest side and the lowest corner have the largest drops of each, and one comparison decides between them, for whole rows without a
-// branch. Cells of other proportions will make three such classes of the two. The table's rule is computed once, for all 256 entries.
+// Drops to the neighbours of a cell ("Directions"): which is the largest when weighted by distance, the sum of the codes that have it, and
+// the table that chooses one code for each sum. The comparison is one of products of 64 bits. Four sides are equally far, and so are four
+// corners: the lowest side and the lowest corner have the largest drops of each, and one comparison decides between them, for whole rows
+// without a branch. Cells of other proportions will make three such classes of the two. The table's rule is computed once, for all 256
+// entries.
 use grid::Grid;
 ghost use mathlib.Core.Path.{_≡_};
 ghost use mathlib.Core.Bool.{Bool, true, false, cond};
@@ -442,8 +443,8 @@ fn keys_of(g: Grid, elevations: &[i16], cell: usize) -> [u16; 8]
     keys
 }
 
-// For a cell within the border: "If the largest weighted drop is above 0, add the codes of all neighbours that have it", 0 where it is not;
-// 256 for an outlet and for a void.
+// For a cell within the border: "If the largest weighted drop is above 0, add the codes of all neighbours that have it", 0 where it is
+// not; 256 for an outlet and for a void.
 fn inner_sum(g: Grid, elevations: &[i16], cell: usize) -> u16
     requires { ⌜ length (now elevations) ≡ size g ⌝ }
     requires { ⌜ size g < 2 ^ 24 ⌝ }

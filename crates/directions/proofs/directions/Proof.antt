@@ -1,4 +1,5 @@
--- The answer of the checks stands beside a no; after a yes its sizes are what `directions_into` asks for, and what that answers is question 10.
+-- The answer of the checks stands beside a no; after a yes its sizes are what `directions_into` asks for, and what that answers is
+-- question 10.
 use native.Mathlib.Omega.{arith}
 use borrow.Author.Needs.{needs}
 use Rattle.directions.proofs.Promise.{refused-promise, accepted-sizes, lacking-promise, accepted-promise}
@@ -45,7 +46,8 @@ returns-2 c =
     let yes = c .before .before .before .before .before .before .before .before in
     let k = yes .before .before .check in
     let a = yes .before .before .before .before .before .args in
-    lacking-promise (a .g) (a .elevations .now) (a .codes .now) (a .work .now) (k .result) (k .ensures) (yes .if1 .left) (d .result) (d .ensures .0) (d .last .1 .1 .0) (d .last .1 .1 .1 .0) (d .ensures .1) (d .kept .1 .1 .1 .0) (c .if2 .taken)
+    lacking-promise (a .g) (a .elevations .now) (a .codes .now) (a .work .now) (k .result) (k .ensures) (yes .if1 .left) (d .result)
+    (d .ensures .0) (d .last .1 .1 .0) (d .last .1 .1 .1 .0) (d .ensures .1) (d .kept .1 .1 .1 .0) (c .if2 .taken)
 
 same-length-3 : tie.Need-same-length-3
 same-length-3 c = search needs
@@ -59,7 +61,8 @@ returns-3 c =
     let yes = c .before .before .before .before .before .before .before .before in
     let k = yes .before .before .check in
     let a = yes .before .before .before .before .before .args in
-    accepted-promise (a .g) (a .elevations .now) (a .codes .now) (a .work .now) (k .result) (k .ensures) (yes .if1 .left) (d .result) (d .ensures .0) (d .last .1 .1 .0) (d .last .1 .1 .1 .0) (d .ensures .1) (d .kept .1 .1 .1 .0) (c .if2 .left)
+    accepted-promise (a .g) (a .elevations .now) (a .codes .now) (a .work .now) (k .result) (k .ensures) (yes .if1 .left) (d .result)
+    (d .ensures .0) (d .last .1 .1 .0) (d .last .1 .1 .1 .0) (d .ensures .1) (d .kept .1 .1 .1 .0) (c .if2 .left)
 
 pub directions-spec : {M : Type 1} → statement M
 directions-spec =

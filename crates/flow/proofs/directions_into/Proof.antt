@@ -26,7 +26,8 @@ returns c =
     let first = c .before .first-without in
     let searched = c .before .before .before .before .before in
     let s = searched .before .before .before .before .before .before .before .before in
-    kept-codes (s .args .g) (s .args .elevations .now) (s .pre .1 .0) (searched .levels .last .1 .1 .0) (searched .levels .ensures) (s .args .codes .now) (first .ensures) (c .if1 .taken)
+    kept-codes (s .args .g) (s .args .elevations .now) (s .pre .1 .0) (searched .levels .last .1 .1 .0) (searched .levels .ensures)
+    (s .args .codes .now) (first .ensures) (c .if1 .taken)
 
 write-codes-requires : tie.Need-write-codes-requires
 write-codes-requires c κs =
@@ -37,8 +38,23 @@ write-codes-requires c κs =
     let s = seeded .before .before .before .before in
     let long = s .pre .1 .1 .1 in
     let same = searched .levels .kept .1 .1 .0 in
-    let same₀ = seeded .seed .kept .1 .1 .0 in
-    (s .pre .1 .0, (s .pre .0, (omega arith, (s .pre .1 .1 .0, (searched .levels .ensures, none-lacks (s .args .g) (s .args .elevations .now) (s .pre .1 .0) (searched .levels .last .1 .1 .0) (searched .levels .ensures) (first .ensures) (all .if1 .left))))))
+    let same₀ = seeded .seed .kept .1 .1 .0 in (
+      s .pre .1 .0,
+      (
+        s .pre .0,
+        (
+          omega arith,
+          (
+            s .pre .1 .1 .0,
+            (
+              searched .levels .ensures,
+              none-lacks (s .args .g) (s .args .elevations .now) (s .pre .1 .0) (searched .levels .last .1 .1 .0)
+                  (searched .levels .ensures) (first .ensures) (all .if1 .left),
+            ),
+          ),
+        ),
+      ),
+    )
 
 same-length-2 : tie.Need-same-length-2
 same-length-2 c = search needs
@@ -53,7 +69,8 @@ returns-2 c =
     let first = all .before .first-without in
     let searched = all .before .before .before .before .before in
     let s = searched .before .before .before .before .before .before .before .before in
-    written-codes (s .args .g) (s .args .elevations .now) (s .pre .1 .0) (searched .levels .last .1 .1 .0) (searched .levels .ensures) (s .args .codes .now) (written .last .1 .1 .1 .0) (first .ensures) (all .if1 .left) (written .ensures)
+    written-codes (s .args .g) (s .args .elevations .now) (s .pre .1 .0) (searched .levels .last .1 .1 .0) (searched .levels .ensures)
+    (s .args .codes .now) (written .last .1 .1 .1 .0) (first .ensures) (all .if1 .left) (written .ensures)
 
 pub directions-into-spec : {M : Type 1} → statement M
 directions-into-spec =

@@ -26,7 +26,8 @@ returns : tie.Need-returns Inv-loop μ-loop
 returns c =
     let l = c .before .before .before .loop in
     let a = c .before .before .before .before .before .args in
-    sym (first-is (length (a .elevations .now)) (λ j. isData (a .elevations .now) j && eqb (getD (a .work .now) j 0) 0) (l .cell) (c .before .before .loop-test .taken) (sym (c .before .lacks-level .ensures) ∙ c .if1 .taken) (l .inv .1))
+    sym (first-is (length (a .elevations .now)) (λ j. isData (a .elevations .now) j && eqb (getD (a .work .now) j 0) 0) (l .cell)
+    (c .before .before .loop-test .taken) (sym (c .before .lacks-level .ensures) ∙ c .if1 .taken) (l .inv .1))
 
 add-cell : tie.Need-add-cell Inv-loop μ-loop
 add-cell c = omega arith
@@ -37,15 +38,19 @@ loop-less c = omega arith
 loop-again : tie.Need-loop-again Inv-loop μ-loop
 loop-again c =
     let l = c .before .before .before .loop in
-    let a = c .before .before .before .before .before .args in
-    (omega arith, below-more (λ j. (isData (a .elevations .now) j && eqb (getD (a .work .now) j 0) 0) ≡ false) (l .cell) (l .inv .1) (sym (c .before .lacks-level .ensures) ∙ c .if1 .left))
+    let a = c .before .before .before .before .before .args in (
+      omega arith,
+      below-more (λ j. (isData (a .elevations .now) j && eqb (getD (a .work .now) j 0) 0) ≡ false) (l .cell) (l .inv .1)
+          (sym (c .before .lacks-level .ensures) ∙ c .if1 .left),
+    )
 
 returns-2 : tie.Need-returns-2 Inv-loop μ-loop
 returns-2 c =
     let l = c .before .loop in
     let a = c .before .before .before .args in
     let done = c .loop-test .left in
-    sym (first-none (length (a .elevations .now)) (λ j. isData (a .elevations .now) j && eqb (getD (a .work .now) j 0) 0) (λ j h. l .inv .1 j (omega arith)))
+    sym (first-none (length (a .elevations .now)) (λ j. isData (a .elevations .now) j && eqb (getD (a .work .now) j 0) 0)
+    (λ j h. l .inv .1 j (omega arith)))
 
 pub first-without-spec : {M : Type 1} → statement M
 first-without-spec =

@@ -13,7 +13,8 @@ cast-result c = search needs
 returns : tie.Need-returns
 returns c =
     let s = c .before .before in
-    c .choose .ensures ∙ sum-word (s .args .g) (s .args .elevations .now) (s .args .cell) (s .args .sum) (s .pre .1 .1 .1 .1) (c .before .if1 .taken)
+    c .choose .ensures
+    ∙ sum-word (s .args .g) (s .args .elevations .now) (s .args .cell) (s .args .sum) (s .pre .1 .1 .1 .1) (c .before .if1 .taken)
 
 outer-word-requires : tie.Need-outer-word-requires
 outer-word-requires c κs =

@@ -1,7 +1,7 @@
-use mathlib.Core.Path.{_≡_, refl, sym, _∙_}
-use Prim.Native.Nat.{ℕ, _+_, _-_, _≤_, _<_}
+use mathlib.Core.Path.{_≡_, refl, _∙_}
+use Prim.Native.Nat.{_-_, _≤_, _<_}
 use native.Mathlib.Omega.{arith}
-use lib.ListN.{length, getD, length-set}
+use lib.ListN.{length, length-set}
 use lib.Seq.{getD-set-other}
 use Rattle.flow_laws.specs.Words.{firstWord}
 use Rattle.flow.specs.Seeding.{WordsTo, SumsIn}
@@ -72,7 +72,8 @@ loop-again c =
     let r = c .inner-word .result in
     let first = l .inv .0 in
     let test = n .loop-test .taken in
-    let next = stored-more (firstWord (s .g) (s .elevations .now)) (l .work) (l .cell) r (within n) (l .inv .3) (c .inner-word .ensures) in (
+    let next = stored-more (firstWord (s .g) (s .elevations .now)) (l .work) (l .cell) r (within n) (l .inv .3)
+    (c .inner-word .ensures) in (
       omega arith,
       omega arith,
       length-set (l .work) (l .cell) r ∙ l .inv .2,

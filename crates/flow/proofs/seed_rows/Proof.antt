@@ -1,5 +1,5 @@
 use mathlib.Core.Path.{_≡_, refl, _∙_}
-use Prim.Native.Nat.{ℕ, _+_, _-_, _*_, _≤_, _<_}
+use Prim.Native.Nat.{_+_, _-_, _*_, _≤_, _<_}
 use native.Mathlib.Omega.{arith}
 use lib.ListN.{length}
 use borrow.Author.Needs.{needs}
@@ -72,7 +72,8 @@ add-loop c =
     omega arith
 
 -- the work buffer keeps its length
-long-at : (c : tie.At-loop Inv-loop μ-loop) → size (c .before .before .before .before .before .before .before .args .g) ≤ length (c .loop .work)
+long-at : (c : tie.At-loop Inv-loop μ-loop) → size (c .before .before .before .before .before .before .before .args .g)
+    ≤ length (c .loop .work)
 long-at c =
     let s = c .before .before .before .before .before .before .before in
     let long = s .pre .1 .1 .0 in

@@ -13,7 +13,10 @@ add-result : tie.Need-add-result
 add-result c = search needs
 
 returns : tie.Need-returns
-returns c = let s = c .before .before in with-member (s .args .sum) (s .args .p) (s .args .chosen) (s .pre .0) (s .pre .1) (c .before .if1 .taken) (c .code .result) (c .code .ensures)
+returns c =
+    let s = c .before .before in
+    with-member (s .args .sum) (s .args .p) (s .args .chosen) (s .pre .0) (s .pre .1) (c .before .if1 .taken) (c .code .result)
+    (c .code .ensures)
 
 returns-2 : tie.Need-returns-2
 returns-2 c = let s = c .before in without-member (s .args .sum) (s .args .p) (s .args .chosen) (s .pre .0) (s .pre .1) (c .if1 .left)

@@ -30,8 +30,16 @@ code-at-requires c κs =
     let l = c .before .before .loop in
     let len = s .pre .0 in
     let test = c .before .loop-test .taken in
-    let on : l .cell < size (s .args .g) = omega arith in
-    (s .pre .0, (s .pre .1 .0, (s .pre .1 .1 .0, (c .before .before .before .choices .ensures, (on, (s .pre .1 .1 .1 .1 .0, s .pre .1 .1 .1 .1 .1 (l .cell) on))))))
+    let on : l .cell < size (s .args .g) = omega arith in (
+      s .pre .0,
+      (
+        s .pre .1 .0,
+        (
+          s .pre .1 .1 .0,
+          (c .before .before .before .choices .ensures, (on, (s .pre .1 .1 .1 .1 .0, s .pre .1 .1 .1 .1 .1 (l .cell) on))),
+        ),
+      ),
+    )
 
 -- the cell's place is among the codes
 within : (a : tie.After-code-at Inv-loop μ-loop) → a .before .before .before .loop .cell < length (a .before .before .before .loop .codes)
@@ -56,8 +64,12 @@ loop-again : tie.Need-loop-again Inv-loop μ-loop
 loop-again c =
     let s = c .before .before .before .before .before .before .before in
     let l = c .before .before .before .loop in
-    let test = c .before .before .loop-test .taken in
-    (omega arith, length-set (l .codes) (l .cell) (c .code-at .result) ∙ l .inv .1, stored-more (directionAt (s .args .g) (s .args .elevations .now) (levelsIn (s .args .g) (s .args .work .now))) (l .codes) (l .cell) (c .code-at .result) (within c) (l .inv .2) (c .code-at .ensures))
+    let test = c .before .before .loop-test .taken in (
+      omega arith,
+      length-set (l .codes) (l .cell) (c .code-at .result) ∙ l .inv .1,
+      stored-more (directionAt (s .args .g) (s .args .elevations .now) (levelsIn (s .args .g) (s .args .work .now))) (l .codes) (l .cell)
+          (c .code-at .result) (within c) (l .inv .2) (c .code-at .ensures),
+    )
 
 same-length : tie.Need-same-length Inv-loop μ-loop
 same-length c = c .before .loop .inv .1
@@ -68,7 +80,8 @@ returns c =
     let l = c .before .loop in
     let len = s .pre .0 in
     let left = c .loop-test .left in
-    is-table (size (s .args .g)) (directionAt (s .args .g) (s .args .elevations .now) (levelsIn (s .args .g) (s .args .work .now))) (l .codes) 0 (l .inv .1 ∙ s .pre .1 .1 .1 .0) (λ j h. l .inv .2 j (omega arith))
+    is-table (size (s .args .g)) (directionAt (s .args .g) (s .args .elevations .now) (levelsIn (s .args .g) (s .args .work .now)))
+    (l .codes) 0 (l .inv .1 ∙ s .pre .1 .1 .1 .0) (λ j h. l .inv .2 j (omega arith))
 
 pub write-codes-spec : {M : Type 1} → statement M
 write-codes-spec =

@@ -45,7 +45,8 @@ returns c =
     let d1 = d0 .before in
     let s = d1 .before in
     ap₂ _+_ (p1 .pick .ensures) (c .pick2 .ensures)
-    ∙ larger-is (s .args .g) (s .args .a) (s .args .b) (s .args .sides) (s .args .corners) (d1 .squared-distance .ensures .0) (d0 .squared-distance2 .ensures .0)
+    ∙ larger-is (s .args .g) (s .args .a) (s .args .b) (s .args .sides) (s .args .corners) (d1 .squared-distance .ensures .0)
+    (d0 .squared-distance2 .ensures .0)
     (l1 .leads .ensures) (c .before .leads2 .ensures)
 
 pub larger-spec : {M : Type 1} → statement M

@@ -26,7 +26,13 @@ pick-requires-2 c κs = search needs
 add-result : tie.Need-add-result
 add-result c =
     let s = c .before .before in
-    omega (arith, c .before .pick .ensures, c .pick2 .ensures, bit (eqb (s .args .a) (s .args .low)) 1, bit (eqb (s .args .b) (s .args .low)) 4)
+    omega (
+      arith,
+      c .before .pick .ensures,
+      c .pick2 .ensures,
+      bit (eqb (s .args .a) (s .args .low)) 1,
+      bit (eqb (s .args .b) (s .args .low)) 4,
+    )
 
 pick-requires-3 : tie.Need-pick-requires-3
 pick-requires-3 c κs = search needs

@@ -1,11 +1,10 @@
 use mathlib.Core.Path.{_≡_, refl, _∙_}
-use Prim.Native.Nat.{ℕ, _+_, _-_, _≤_, _<_}
+use Prim.Native.Nat.{ℕ, _-_, _≤_, _<_}
 use native.Mathlib.Omega.{arith}
 use lib.ListN.{length, getD, set, length-set}
 use lib.Seq.{getD-set-same, getD-set-other}
 use borrow.Author.Count.{below-more}
 use borrow.Author.Needs.{needs}
-use Rattle.grid.specs.Sheet.{size}
 use Rattle.slopes.specs.Steepest.{innerSum}
 use Rattle.slopes.proofs.row_sums.Statement.{statement}
 use Rattle.slopes.proofs.row_sums.Tie as tie
@@ -66,7 +65,8 @@ loop-again c =
     let r = c .inner-sum .result in (
       omega arith,
       length-set (l .work) (l .cell) r ∙ l .inv .1,
-      (λ i h k. below-more (λ j. s .args .from ≤ j → getD (set (l .work) (l .cell) r) j 0 ≡ innerSum (s .args .g) (s .args .elevations .now) j)
+      (λ i h k. below-more (λ j. s .args .from ≤ j →
+          getD (set (l .work) (l .cell) r) j 0 ≡ innerSum (s .args .g) (s .args .elevations .now) j)
           (l .cell) (λ j m h. getD-set-other (l .work) (l .cell) j r 0 (λ q. omega arith) ∙ l .inv .2 j h m)
           (λ h. getD-set-same (l .work) (l .cell) r 0 (within c) ∙ c .inner-sum .ensures) i k h),
       λ i h. getD-set-other (l .work) (l .cell) i r 0 (λ q. omega arith) ∙ l .inv .3 i h,
