@@ -3,12 +3,16 @@ use mathlib.Core.Path.{_≡_, refl, sym, ap, _∙_}
 use mathlib.Core.List.{List, [], _∷_, _++_, append-assoc, append-nil}
 use mathlib.Core.Logic.{_≢_}
 use Prim.Native.Nat.{ℕ, zero, suc, _+_, _*_, _≤_, _<_}
-use native.Mathlib.Nat.{add-zero, zero-add, add-suc, suc-add, add-assoc, suc-mul, zero-mul}
+use native.Mathlib.Nat.{add-zero, zero-add, add-suc, suc-add, add-assoc, suc-mul, zero-mul, mul-le-mul-right}
 use native.Mathlib.Numerals.{add-one}
 use native.Mathlib.Omega.{arith}
 use lib.ListN.{length, take, drop, set, length-append}
 use lib.Seq.{sets, set-comm, sets-eq}
 use Rattle.grid.specs.Below.{table, joinBelow}
+
+-- the next of `rows` pieces of m each ends within them
+pub one-more-fits : (m : ℕ) {r rows : ℕ} → r < rows → r * m + m ≤ rows * m
+one-more-fits m {r} {rows} h = rw (suc-mul r m) at (mul-le-mul-right m h)
 
 module _ {A : Type 0} where
   -- two runs, the second where the first ends, are one

@@ -2,7 +2,7 @@
 use mathlib.Core.Path.{_≡_, refl, sym, ap, _∙_}
 use mathlib.Core.List.{List, [], _∷_, _++_}
 use Prim.Native.Nat.{ℕ, zero, suc, _+_, _*_, _≤_, _<_}
-use native.Mathlib.Nat.{mul-le-mul-right, suc-mul, zero-mul, add-zero}
+use native.Mathlib.Nat.{suc-mul, zero-mul, add-zero}
 use native.Mathlib.Numerals.{add-one}
 use native.Mathlib.Omega.{arith}
 use lib.ListN.{length, set, length-append}
@@ -69,10 +69,6 @@ pub record LinesTo (cols k : ℕ) (f : ℕ → ℕ) (out₀ : List ℕ) (from : 
   pub next-cell : c ≡ r * cols
   pub next-place : next ≡ from + r * (cols * k + 1)
   pub stored : out ≡ sets out₀ from (linesText cols k f r)
-
--- the next of `rows` pieces of m each ends within them
-pub one-more-fits : (m : ℕ) {r rows : ℕ} → r < rows → r * m + m ≤ rows * m
-one-more-fits m {r} {rows} h = rw (suc-mul r m) at (mul-le-mul-right m h)
 
 module _ (cols k : ℕ) (f : ℕ → ℕ) (out₀ : List ℕ) (from : ℕ) where
   pub lines-none : LinesTo cols k f out₀ from out₀ from 0 0

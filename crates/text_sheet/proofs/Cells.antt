@@ -2,7 +2,7 @@
 use mathlib.Core.Path.{_≡_, refl, sym, ap, _∙_}
 use mathlib.Core.List.{List, [], _∷_, _++_}
 use Prim.Native.Nat.{ℕ, zero, suc, _+_, _*_, _/_, _%_, _≤_, _<_}
-use native.Mathlib.Nat.{mul-le-mul-right, suc-mul, zero-mul, zero-add, add-zero}
+use native.Mathlib.Nat.{suc-mul, zero-mul, zero-add, add-zero}
 use native.Mathlib.Numerals.{add-one}
 use native.Mathlib.Omega.{arith}
 use lib.Arith.{digits-div, digits-mod}
@@ -59,10 +59,6 @@ pub record LinesTo (text : List ℕ) (cols : ℕ) (e₀ e : List ℤ) (next : Cu
   pub next-cell : c ≡ r * cols
   pub next-place : next .at ≡ 9 + r * (4 * cols + 1)
   pub stored : e ≡ sets e₀ 0 (table (r * cols) (cellValue text cols))
-
--- the next of `rows` pieces of m each ends within them
-pub one-more-fits : (m : ℕ) {r rows : ℕ} → r < rows → r * m + m ≤ rows * m
-one-more-fits m {r} {rows} h = rw (suc-mul r m) at (mul-le-mul-right m h)
 
 module _ (text : List ℕ) (cols : ℕ) (e₀ : List ℤ) where
   pub lines-none : LinesTo text cols e₀ e₀ record { at = 9 } 0 0

@@ -5,8 +5,9 @@ use native.Mathlib.Omega.{arith}
 use lib.ListN.{length, getD, set, length-set}
 use Rattle.grid.specs.Sheet.{at}
 use Rattle.grid.specs.Frames.{toTwos}
+use Rattle.text_laws.proofs.Runs.{one-more-fits}
 use Rattle.text_laws.proofs.Digits.{sheet-lines}
-use Rattle.text_lines.proofs.Lines.{LinesTo, lines-none, lines-more, lines-end, one-more-fits}
+use Rattle.text_lines.proofs.Lines.{LinesTo, lines-none, lines-more, lines-end}
 use Rattle.text_lines.proofs.codes_sheet.Statement.{statement}
 use Rattle.text_lines.proofs.codes_sheet.Tie as tie
 use Rattle.text_lines.proofs.codes_sheet.Reads as reads

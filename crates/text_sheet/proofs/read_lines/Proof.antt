@@ -2,7 +2,8 @@
 use mathlib.Core.Path.{_≡_, refl, _∙_}
 use Prim.Native.Nat.{ℕ, _+_, _-_, _*_, _≤_, _<_}
 use native.Mathlib.Omega.{arith}
-use Rattle.text_sheet.proofs.Cells.{LinesTo, lines-none, lines-more, lines-end, one-more-fits}
+use Rattle.text_laws.proofs.Runs.{one-more-fits}
+use Rattle.text_sheet.proofs.Cells.{LinesTo, lines-none, lines-more, lines-end}
 use Rattle.text_sheet.proofs.read_lines.Statement.{statement}
 use Rattle.text_sheet.proofs.read_lines.Tie as tie
 use Rattle.text_sheet.proofs.read_lines.Reads as reads
