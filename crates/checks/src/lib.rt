@@ -7,8 +7,8 @@ ghost use mathlib.Core.List.{[], _∷_};
 ghost use Prim.Native.Nat.{_+_, _*_, _<_, _≤_};
 ghost use Rattle.grid.specs.Checks.{accepted, inRange, allHave, askSheets, askWork};
 
-// "from 1 to 4,000"
-fn in_range(k: usize) -> bool
+// "from 1 to 4,000", in questions 5 and 6, which the reader asks too.
+pub fn in_range(k: usize) -> bool
     ensures { λ r. ⌜ r ≡ inRange k ⌝ }
 {
     if k < 1 {

@@ -20,14 +20,6 @@ use Rattle.reader.specs.Parts.{textCheck, sizeCheck, withoutSize}
 
 -- ---- one question at a time
 
-pub below-range : (k : ℕ) → k < 1 → inRange k ≡ false
-unfolding inRange
-below-range k h = rw (lt-leb 1 k h)
-
-pub from-one : (k : ℕ) → 1 ≤ k → inRange k ≡ leb k 4000
-unfolding inRange
-from-one k h = rw (le-leb 1 k h)
-
 module _ (text : List ℕ) where
   pub too-long : 11529 < length text → textCheck text ≡ refusal 1 0
   unfolding textCheck

@@ -4,7 +4,6 @@
 ghost use mathlib.Core.Path.{_≡_};
 ghost use Prim.Native.Nat.{_≤_};
 ghost use lib.ListN.{length};
-ghost use Rattle.grid.specs.Checks.{inRange};
 ghost use Rattle.grid.specs.Promises.{ReadPromise};
 ghost use Rattle.reader.specs.Parts.{textCheck, sizeCheck, withoutSize};
 use grid::Answer;
@@ -56,13 +55,13 @@ fn check_size(g: Grid, room: usize) -> Answer
             place: 0,
         };
     }
-    if !in_range(rows) {
+    if !checks::in_range(rows) {
         return Answer {
             number: 5,
             place: 0,
         };
     }
-    if !in_range(cols) {
+    if !checks::in_range(cols) {
         return Answer {
             number: 6,
             place: 0,
@@ -78,16 +77,6 @@ fn check_size(g: Grid, room: usize) -> Answer
         number: 0,
         place: 0,
     }
-}
-
-// from 1 to 4,000
-fn in_range(k: usize) -> bool
-    ensures { λ r. ⌜ r ≡ inRange k ⌝ }
-{
-    if k < 1 {
-        return false;
-    }
-    k <= 4000
 }
 
 // "Counts, rows and columns reported with a no are 0"

@@ -8,7 +8,6 @@ use Rattle.reader.proofs.check_size.Statement.{statement}
 use Rattle.reader.proofs.check_size.Tie as tie
 use Rattle.reader.proofs.check_size.Reads as reads
 use Rattle.reader.proofs.check_size.Lts as lts
-use Rattle.reader.proofs.in_range.Reads as in-range-reads
 
 mul-size : tie.Need-mul-size
 mul-size c = omega (arith, cells-small (c .args .g) (c .pre .0) (c .pre .1))
