@@ -18,7 +18,7 @@ use Rattle.grid.specs.Sheet.{gridOf, size}
 use Rattle.grid.specs.Checks.{refusal, accepted, isAccepted, ask, inRange, askSize, allHave, askSheets, askWork, drainCheck}
 use Rattle.grid.specs.Frames.{textGrid, isShaped, firstBadByte, readCheck, textSheet, resultText, refusalText, drainText, programText}
 use Rattle.grid.specs.Promises.{ReadPromise, DrainPromise}
-use Rattle.text_laws.proofs.Runs.{length-table}
+use Rattle.grid_laws.proofs.Below.{length-table}
 use Rattle.frames.specs.Printed.{Printed, Sheets, resultLength}
 use Rattle.drain_text.specs.Room.{Small, Lent}
 

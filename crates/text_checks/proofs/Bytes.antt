@@ -12,7 +12,7 @@ use borrow.Author.Tests.{lt-ltb, le-ltb, le-leb, lt-leb, eq-eqb, ne-eqb}
 use Rattle.grid.specs.Below.{anyBelow, firstBelow}
 use Rattle.grid.specs.declared.Grid.{Grid}
 use Rattle.grid.specs.Frames.{lineFeed, hexValue, isTextByte, number4, textGrid, endsLine, isShaped, firstBadByte}
-use Rattle.text_laws.proofs.Tests.{first-none, first-is, none-below, some-below}
+use Rattle.grid_laws.proofs.Below.{first-none, first-is, none-of, any-of}
 use Rattle.text_checks.specs.Shape.{isPlaced, feedsEndLines}
 
 -- ---- question 2
@@ -31,7 +31,7 @@ FineTo text i = (k : ℕ) → k < i → isTextByte (getD text k 0) ≡ true
 
 pub bad-byte : (text : List ℕ) (i : ℕ) → i < length text → FineTo text i → isTextByte (getD text i 0) ≡ false → i ≡ firstBadByte text
 unfolding firstBadByte
-bad-byte text i l h e = sym (first-is (length text) i (λ k. not (isTextByte (getD text k 0))) l (λ k m. ap not (h k m)) (ap not e))
+bad-byte text i l h e = sym (first-is (length text) (λ k. not (isTextByte (getD text k 0))) i l (ap not e) (λ k m. ap not (h k m)))
 
 pub no-bad-byte : (text : List ℕ) (i : ℕ) → i ≡ length text → FineTo text i → i ≡ firstBadByte text
 unfolding firstBadByte
@@ -86,8 +86,8 @@ module _ (cols : ℕ) (text : List ℕ) where
   unfolding feedsEndLines isPlaced
   all-placed i e h =
       rw (
-        none-below (length text) (λ k. not (eqb (getD text k 0) lineFeed) && endsLine cols k) (λ k m. right-first (eqb (getD text k 0) lineFeed) (endsLine cols k) (h k (omega arith))),
-        none-below (length text) (λ k. eqb (getD text k 0) lineFeed && not (endsLine cols k)) (λ k m. right-second (eqb (getD text k 0) lineFeed) (endsLine cols k) (h k (omega arith))),
+        none-of (length text) (λ k. not (eqb (getD text k 0) lineFeed) && endsLine cols k) (λ k m. right-first (eqb (getD text k 0) lineFeed) (endsLine cols k) (h k (omega arith))),
+        none-of (length text) (λ k. eqb (getD text k 0) lineFeed && not (endsLine cols k)) (λ k m. right-second (eqb (getD text k 0) lineFeed) (endsLine cols k) (h k (omega arith))),
       )
 
   neither : (a b : Bool) → (a ≡ true) ⊎ (b ≡ true) → (not a && not b) ≡ false
@@ -100,8 +100,8 @@ module _ (cols : ℕ) (text : List ℕ) where
   one-misplaced i l e =
       neither _ _
       (⊎-elim
-      (λ w. inl (some-below (length text) i (λ k. not (eqb (getD text k 0) lineFeed) && endsLine cols k) l w))
-      (λ w. inr (some-below (length text) i (λ k. eqb (getD text k 0) lineFeed && not (endsLine cols k)) l w))
+      (λ w. inl (any-of (length text) (λ k. not (eqb (getD text k 0) lineFeed) && endsLine cols k) i l w))
+      (λ w. inr (any-of (length text) (λ k. eqb (getD text k 0) lineFeed && not (endsLine cols k)) i l w))
       (wrong-either (eqb (getD text i 0) lineFeed) (endsLine cols i) e))
 
 module _ (text : List ℕ) where

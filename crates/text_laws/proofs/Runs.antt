@@ -9,6 +9,7 @@ use native.Mathlib.Omega.{arith}
 use lib.ListN.{length, take, drop, set, length-append}
 use lib.Seq.{sets, set-comm, sets-eq}
 use Rattle.grid.specs.Below.{table, joinBelow}
+use Rattle.grid_laws.proofs.Below.{table-ext}
 
 -- the next of `rows` pieces of m each ends within them
 pub one-more-fits : (m : ℕ) {r rows : ℕ} → r < rows → r * m + m ≤ rows * m
@@ -36,24 +37,13 @@ module _ {A : Type 0} where
 
   -- ---- a table
 
-  pub length-table : (n : ℕ) (f : ℕ → A) → length (table n f) ≡ n
-  unfolding table
-  length-table zero f = refl
-  length-table (suc n) f = ap suc (length-table n (λ k. f (suc k)))
-
-  -- tables of functions that agree below n
-  pub table-same : (n : ℕ) (f g : ℕ → A) → ((k : ℕ) → k < n → f k ≡ g k) → table n f ≡ table n g
-  unfolding table
-  table-same zero f g h = refl
-  table-same (suc n) f g h = rw (h 0 (omega arith), table-same n (λ k. f (suc k)) (λ k. g (suc k)) (λ k l. h (suc k) (omega arith)))
-
   pub table-add : (m n : ℕ) (f : ℕ → A) → table (m + n) f ≡ table m f ++ table n (λ k. f (m + k))
   unfolding table
-  table-add zero n f = rw zero-add (table-same n f (λ k. f (0 + k)) (λ k l. ap f (sym (zero-add k))))
+  table-add zero n f = rw zero-add (table-ext n f (λ k. f (0 + k)) (λ k l. ap f (sym (zero-add k))))
   table-add (suc m) n f =
       rw (suc-add m n, table-add m n (λ k. f (suc k)))
       (ap (λ (t : List A). f 0 ∷ (table m (λ k. f (suc k)) ++ t))
-      (table-same n (λ k. f (suc (m + k))) (λ k. f (suc m + k)) (λ k l. ap f (sym (suc-add m k)))))
+      (table-ext n (λ k. f (suc (m + k))) (λ k. f (suc m + k)) (λ k l. ap f (sym (suc-add m k)))))
 
   pub table-next : (n : ℕ) (f : ℕ → A) → table (n + 1) f ≡ table n f ++ (f n ∷ [])
   unfolding table

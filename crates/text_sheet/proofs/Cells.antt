@@ -14,7 +14,8 @@ use Rattle.grid.specs.Below.{table}
 use Rattle.grid.specs.Sheet.{size}
 use Rattle.grid.specs.Frames.{number4, fromTwos, textGrid, textSheet}
 use Rattle.cursor.specs.declared.Cursor.{Cursor}
-use Rattle.text_laws.proofs.Runs.{sets-next, sets-front, length-table, table-same, table-add, table-next}
+use Rattle.grid_laws.proofs.Below.{length-table, table-ext}
+use Rattle.text_laws.proofs.Runs.{sets-next, sets-front, table-add, table-next}
 use Rattle.text_sheet.specs.Rows.{elevationsFrom, LineRead}
 
 -- q numbers of the line that starts at place `from` are stored, from cell c on
@@ -73,7 +74,7 @@ module _ (text : List ℕ) (cols : ℕ) (e₀ : List ℤ) where
   -- the cells of line r
   cells-of-line : (r : ℕ) → table cols (λ k. cellValue text cols (r * cols + k)) ≡ elevationsFrom text (9 + r * (4 * cols + 1)) cols
   cells-of-line r =
-      table-same cols (λ k. cellValue text cols (r * cols + k)) (λ k. fromTwos (number4 text (9 + r * (4 * cols + 1) + 4 * k)))
+      table-ext cols (λ k. cellValue text cols (r * cols + k)) (λ k. fromTwos (number4 text (9 + r * (4 * cols + 1) + 4 * k)))
       (λ k l. rw (digits-div r l, digits-mod r l))
 
   pub lines-more : {e e₁ : List ℤ} {next next₁ : Cursor} {c r : ℕ} → LinesTo text cols e₀ e next c r → LineRead text cols (next .at) c e e₁ next₁
