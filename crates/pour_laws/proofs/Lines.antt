@@ -8,14 +8,15 @@ use native.Mathlib.Nat.{min-comm, max-comm}
 use native.Mathlib.Omega.{arith}
 use native.Mathlib.Decide.{decLt, ℕ-discrete}
 use lib.Dec.{eqb, ltb, leb}
-use lib.ListN.{length, getD, List·getD-eq-default}
+use lib.ListN.{length, getD}
 use lib.IntN.{ℤ, pos, negsuc}
 use lib.Signed.{ltZ, leZ}
 use borrow.Author.Tests.{lt-ltb, le-ltb, le-leb, lt-leb, eq-eqb, ne-eqb, ltb-true, ltb-false}
 use Rattle.grid.specs.declared.Grid.{Grid}
 use Rattle.grid.specs.Below.{joinBelow}
-use Rattle.grid.specs.Sheet.{void, size, at, eqZ, higher, isData, neighbour}
+use Rattle.grid.specs.Sheet.{size, at, higher, isData, neighbour}
 use Rattle.grid.specs.PourPoints.{Entry, candidate, candidatesAt, candidates, pourPoints}
+use Rattle.grid_laws.proofs.Cells.{on-sheet}
 use Rattle.pour_laws.specs.Words.{Fits, Among}
 use Rattle.pour_laws.specs.Lines.{candidateOf, run, between, line, lines}
 use Rattle.pour_laws.proofs.Neighbours.{Later, east, south-east, south, south-west, later-touches, touch-later}
@@ -249,19 +250,6 @@ module _ (g : Grid) (e : List ℤ) (labels : List ℕ) where
       of-line : (r : ℕ) × (r < g .rows) × Among x (line g e labels r) → Met x
       of-line w = ⊎-elim (λ v. of-three (w .0) (v .0) (three (w .0) (v .1))) (λ v. of-east (w .0) (w .1) (run-out e labels x _ _ _ v)) (line-out x (w .0) (w .2))
 
-  -- a data cell is on the sheet
-  data-on : length e ≡ size g → (n : ℕ) → isData e n ≡ true → n < size g
-  unfolding isData void eqZ
-  data-on long n h = go (decLt n (size g))
-    where
-      go : Dec (n < size g) → n < size g
-      go (yes p) = p
-      go (no p) =
-          let q : at e n ≡ void = List·getD-eq-default e void (omega arith) in
-          let f : _≡_ {A = Bool} false true = (subst (λ (z : ℤ). not (eqZ z void) ≡ true) q h) in
-          let z : _≡_ {A = ℕ} 0 1 = cc in
-          omega arith
-
   candidate-data : (x : Entry) (c n : ℕ) → Among x (candidateOf e labels c n) → isData e n ≡ true
   unfolding candidateOf
   candidate-data x c n i = go (isData e c) (isData e n) (eqb (getD labels c 0) (getD labels n 0)) i
@@ -278,7 +266,7 @@ module _ (g : Grid) (e : List ℤ) (labels : List ℕ) where
     scan-all x i =
         let w = join-out x (size g) (λ c. joinBelow 8 (candidatesAt g e labels c)) i in
         let v = join-out x 8 (candidatesAt g e labels (w .0)) (w .2) in
-        go (w .0) (v .0) (touch-later g (w .0) (w .1) (v .0) (v .1) (data-on long (neighbour g (w .0) (v .0)) (candidate-data x (w .0) (neighbour g (w .0) (v .0)) (v .2)))) (v .2)
+        go (w .0) (v .0) (touch-later g (w .0) (w .1) (v .0) (v .1) (on-sheet g e long (neighbour g (w .0) (v .0)) (candidate-data x (w .0) (neighbour g (w .0) (v .0)) (v .2)))) (v .2)
       where
         go : (c p : ℕ) → Later g c (neighbour g c p) ⊎ Later g (neighbour g c p) c → Among x (candidateOf e labels c (neighbour g c p)) → Among x (lines g e labels (g .rows))
         go c p (inl l) j = later-in x c (neighbour g c p) l j
