@@ -3,16 +3,10 @@ use mathlib.Core.Path.{_≡_, refl, sym, _∙_, ap, subst}
 use mathlib.Core.Logic.{_⊎_, inl, inr, ⊎-elim}
 use Prim.Native.Nat.{ℕ, zero, suc, _+_, _≤_, _<_}
 use native.Mathlib.Omega.{arith}
+use borrow.Author.Count.{below-more}
 use native.Mathlib.Decide.{ℕ-discrete, decLt}
 use Rattle.flood_laws.specs.Flood.{marked, Flood}
 use Rattle.flood_laws.proofs.Marks.{at-most, room, more-marks}
-
-pub last? : (len i : ℕ) → i < len + 1 → (i < len) ⊎ (i ≡ len)
-last? len i h = go (decLt i len)
-  where
-    go : Dec (i < len) → (i < len) ⊎ (i ≡ len)
-    go (yes l) = inl l
-    go (no f) = inr (omega arith)
 
 module _ {size : ℕ} {Cell Out : ℕ → Type 0} {Next : ℕ → ℕ → Type 0} {Later : ℕ → Type 0} {key queue level : ℕ → ℕ} {v head len : ℕ}
     (on : (c : ℕ) → Cell c → c < size)
@@ -55,11 +49,11 @@ module _ {size : ℕ} {Cell Out : ℕ → Type 0} {Next : ℕ → ℕ → Type 0
     pub reached : Flood size Cell Out Next Later key queue' level' v head (len + 1)
     reached =
         record {
-          queued = λ i h. ⊎-elim (λ l. let q = old i l in (rw (q-other i l) (q .2), omega arith)) (λ e. rw e (rw qc (t, rw level-c pv))) (last? len i h);
+          queued = below-more _ len (λ i l. let q = old i l in (rw (q-other i l) (q .2), omega arith)) (rw qc (t, rw level-c pv));
           placed = λ x l h. ⊎-elim (λ w. (len, omega arith, qc ∙ sym (w .0))) (λ w. let p = F .placed x l (w .0) in (p .0, let y = p .1 in omega arith, q-other (p .0) (p .1) ∙ p .2)) (was x h);
           under = λ x l h. ⊎-elim (λ w. let a : key x ≤ v = rw (w .0) kv in let e = w .1 in (omega arith, omega arith)) (λ w. rw (w .1) (F .under x l (w .0))) (was x h);
-          front = λ i h k. ⊎-elim (λ l. old i l .0 ∙ F .front i l k) (λ e. rw e (rw qc level-c)) (last? len i h);
-          parents = λ i h. ⊎-elim (λ l. parent-old i l) (λ e. rw e parent-new) (last? len i h);
+          front = below-more _ len (λ i l k. old i l .0 ∙ F .front i l k) (λ k. rw qc level-c);
+          parents = below-more _ len parent-old parent-new;
           outs = λ x o h. ⊎-elim (λ w. w .1 ∙ rw (w .0) (out-level (subst Out (w .0) o))) (λ w. w .1 ∙ F .outs x o (w .0)) (was x h);
           outs-later = λ x o h. F .outs-later x o (unreached x h (ℕ-discrete x c));
           spread = λ i m h b. let l : i < len = (let y = F .order in omega arith) in ⊎-elim (λ r. inl (rw (kept m r) r)) inr (F .spread i m h (rw (q-other i l) at b));
@@ -103,7 +97,7 @@ module _ {size : ℕ} {Cell Out : ℕ → Type 0} {Next : ℕ → ℕ → Type 0
         parents = F .parents;
         outs = F .outs;
         outs-later = F .outs-later;
-        spread = λ i m h b. ⊎-elim (λ k. F .spread i m k b) (λ e. s m (rw e at b)) (last? head i h);
+        spread = λ i m h. below-more (λ j. Next (queue j) m → _) head (λ j k b. F .spread j m k b) (s m) i h;
         flat = F .flat;
         count = F .count;
         order = omega arith;

@@ -4,6 +4,7 @@ use mathlib.Core.Logic.{_⊎_, inl, inr, ⊎-elim}
 use mathlib.Core.List.{List}
 use Prim.Native.Nat.{ℕ, zero, suc, _+_, _-_, _*_, _/_, _%_, _≤_, _<_}
 use native.Mathlib.Omega.{arith}
+use borrow.Author.Count.{below-more}
 use native.Mathlib.Decide.{ℕ-discrete, decLt}
 use lib.ListN.{length, getD, set, length-set}
 use lib.Seq.{getD-set-same, getD-set-other}
@@ -14,7 +15,6 @@ use Rattle.key_sort.specs.Order.{Ahead, Sorted}
 use Rattle.flood_laws.specs.Flood.{marked, Flood, CellOf, NextTo, OutletOf, FloodOf, Between, During, Spread, Settled, Wanted, Touched, Room, Opens, Opening}
 use Rattle.flood_laws.proofs.Marks.{room, no-marks, at-most}
 use Rattle.flood_laws.proofs.Reach as Reach
-use Rattle.flood_laws.proofs.Reach.{last?}
 
 module _ (g : Grid) (f : List ℕ) where
   pub next-back : (c m : ℕ) → NextTo g f c m → NextTo g f m c
@@ -97,7 +97,7 @@ module _ (g : Grid) (f b : List ℕ) (k v head len x p : ℕ) where
           more = S .more;
           first = S .first;
           room = S .room;
-          done = λ q l. ⊎-elim (λ y. S .done q y) (λ e. rw e (λ t. ⊎-elim inl (λ u. inr (S .during .high (neighbour g x p) t u)) (h t))) (last? p q l);
+          done = below-more _ p (S .done) (λ t. ⊎-elim inl (λ u. inr (S .during .high (neighbour g x p) t u)) (h t));
         }
 
     touched : Wanted (size g) f b v (neighbour g x p) → Spread g f (set (set b (size g + neighbour g x p) v) len (neighbour g x p)) k v head (len + 1) x (p + 1)
@@ -108,7 +108,7 @@ module _ (g : Grid) (f b : List ℕ) (k v head len x p : ℕ) where
           more = (let y = S .more in omega arith);
           first = after-queue-other (size g) b v len m (W .0 .0) less (S .room) head (S .more) ∙ S .first;
           room = (let y = S .room in omega (arith, after-length (size g) b v len m (W .0 .0) less (S .room)));
-          done = λ q l. ⊎-elim (λ y t. ⊎-elim (λ r. inl (keep (neighbour g x q) r)) inr (S .done q y t)) (λ e. rw e (λ t. inl (rw (after-level (size g) b v len m (W .0 .0) less (S .room)) (S .during .some)))) (last? p q l);
+          done = below-more _ p (λ q y t. ⊎-elim (λ r. inl (keep (neighbour g x q) r)) inr (S .done q y t)) (λ t. inl (rw (after-level (size g) b v len m (W .0 .0) less (S .room)) (S .during .some)));
         }
       where
         m : ℕ
