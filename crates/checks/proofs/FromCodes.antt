@@ -1,0 +1,109 @@
+-- A call from codes to one list of numbers, the counts or the labels: from the answers to its questions to what it promises. k₀ is the result list
+-- at entry, w₀ the work buffer, `made` the list that the call makes where every answer is yes.
+use mathlib.Core.Path.{_≡_, refl, sym, _∙_, ap}
+use mathlib.Core.Bool.{cond}
+use mathlib.Core.List.{List, [], _∷_}
+use Prim.Native.Nat.{ℕ, _*_, _≤_, _<_}
+use native.Mathlib.Omega.{arith}
+use lib.Dec.{eqb}
+use lib.ListN.{length}
+use borrow.Author.Tests.{eq-eqb, ne-eqb}
+use Rattle.grid.specs.declared.Grid.{Grid}
+use Rattle.grid.specs.declared.Answer.{Answer}
+use Rattle.grid.specs.Sheet.{size}
+use Rattle.grid.specs.Routes.{firstBadCode, firstEndless}
+use Rattle.grid.specs.Checks.{accepted, refusal, askSheets, askWork, askCodes, codesCheck}
+use Rattle.grid.specs.Promises.{resultOf, WorkBuffer}
+use Rattle.grid_laws.proofs.Tests.{cond-true, cond-false}
+use Rattle.checks.specs.Sizes.{Fits}
+use Rattle.checks.proofs.Asked.{Passed, passed, refused, have-first, one-input}
+use Rattle.checks.proofs.Questions.{bad-≤, endless-≤, codes-bad, codes-endless, codes-yes}
+
+-- what both calls promise
+pub record FromCodes (g : Grid) (codes made k₀ k₁ w₀ w₁ : List ℕ) (r : Answer) : Type 0 where
+  pub answer : r ≡ codesCheck g codes (length k₀) (length w₀)
+  pub result : k₁ ≡ resultOf r made k₀
+  pub work : WorkBuffer (r .number) w₀ w₁
+
+-- rows, columns and every length as the calls want them
+pub record Sizes (g : Grid) (codes k₀ w₀ : List ℕ) : Type 0 where
+  pub fits : Fits g
+  pub codes-long : length codes ≡ size g
+  pub result-long : length k₀ ≡ size g
+  pub room : 4 * size g ≤ length w₀
+
+-- the lengths that `check` is asked about: both lists of codes, all four results are one
+abbrev inputs : List ℕ → List ℕ
+inputs codes = length codes ∷ length codes ∷ []
+
+abbrev results : List ℕ → List ℕ
+results k₀ = length k₀ ∷ length k₀ ∷ length k₀ ∷ length k₀ ∷ []
+
+module _ (g : Grid) (codes k₀ w₀ : List ℕ) (r : Answer)
+    (asked : r ≡ askSheets g (inputs codes) (results k₀) (askWork g (length w₀) accepted)) where
+  number-asked : (askSheets g (inputs codes) (results k₀) (askWork g (length w₀) accepted)) .number ≡ r .number
+  number-asked = ap (λ (a : Answer). a .number) (sym asked)
+
+  whole : askSheets g (inputs codes) (results k₀) (askWork g (length w₀) (askCodes g codes accepted)) ≡ codesCheck g codes (length k₀) (length w₀)
+  unfolding codesCheck
+  whole = one-input g (length codes) (length k₀) (askWork g (length w₀) (askCodes g codes accepted))
+
+  pub refused-promise : {made : List ℕ} → (r .number ≡ 0 → ⊥) → FromCodes g codes made k₀ k₀ w₀ w₀ r
+  refused-promise {made} n =
+      let f = refused g (inputs codes) (results k₀) (length w₀) (λ e. n (sym number-asked ∙ e)) in
+      record {
+        answer = asked ∙ sym (f .stands (askCodes g codes accepted)) ∙ whole;
+        result = sym (cond-false made k₀ (ne-eqb (r .number) 0 n));
+        work = record { same-length = refl; untouched = λ l h. refl };
+      }
+
+  module _ (yes : r .number ≡ 0) where
+    pass : Passed g (inputs codes) (results k₀) (length w₀)
+    pass = passed g (inputs codes) (results k₀) (length w₀) (number-asked ∙ yes)
+
+    pub sizes : Sizes g codes k₀ w₀
+    sizes =
+        record {
+          fits = pass .fits;
+          codes-long = have-first (size g) (length codes) (length codes ∷ []) (pass .inputs-have);
+          result-long = have-first (size g) (length k₀) (length k₀ ∷ length k₀ ∷ length k₀ ∷ []) (pass .results-have);
+          room = pass .room;
+        }
+
+    check-is : askCodes g codes accepted ≡ codesCheck g codes (length k₀) (length w₀)
+    check-is = sym (pass .then (askCodes g codes accepted)) ∙ whole
+
+    pub bad-promise : {made : List ℕ} (bad : ℕ) → bad ≡ firstBadCode g codes → bad < length codes
+        → FromCodes g codes made k₀ k₀ w₀ w₀ (refusal 11 bad)
+    bad-promise bad e h =
+        let l = sizes .codes-long in
+        record {
+          answer = ap (refusal 11) e ∙ sym (codes-bad g codes accepted (omega arith)) ∙ check-is;
+          result = refl;
+          work = record { same-length = refl; untouched = λ l h. refl };
+        }
+
+    pub none-bad : (bad : ℕ) → bad ≡ firstBadCode g codes → length codes ≤ bad → firstBadCode g codes ≡ size g
+    none-bad bad e h = let l = sizes .codes-long in let b = bad-≤ g codes in omega arith
+
+    module _ (good : firstBadCode g codes ≡ size g) (first : ℕ) (is : first ≡ firstEndless g codes) {made : List ℕ}
+        (k₁ w₁ : List ℕ) (stands : k₁ ≡ cond (eqb first (size g)) made k₀) (same : length w₁ ≡ length w₀) where
+      pub endless-promise : first < length codes → FromCodes g codes made k₀ k₁ w₀ w₁ (refusal 12 first)
+      endless-promise h =
+          let l = sizes .codes-long in
+          record {
+            answer = ap (refusal 12) is ∙ sym (codes-endless g codes accepted good (omega arith)) ∙ check-is;
+            result = stands ∙ cond-false made k₀ (ne-eqb first (size g) (λ q. let z : ⊥ = omega arith in absurd z));
+            work = record { same-length = same; untouched = λ l h. let z : ⊥ = omega arith in absurd z };
+          }
+
+      pub made-promise : length codes ≤ first → FromCodes g codes made k₀ k₁ w₀ w₁ r
+      made-promise h =
+          let l = sizes .codes-long in
+          let b = endless-≤ g codes in
+          let q : first ≡ size g = omega arith in
+          record {
+            answer = asked ∙ pass .then accepted ∙ sym (codes-yes g codes accepted good (sym is ∙ q)) ∙ check-is;
+            result = stands ∙ cond-true made k₀ (eq-eqb first (size g) q) ∙ sym (cond-true made k₀ (eq-eqb (r .number) 0 yes));
+            work = record { same-length = same; untouched = λ l h. let z : ⊥ = omega arith in absurd z };
+          }
