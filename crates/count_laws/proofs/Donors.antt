@@ -11,7 +11,7 @@ use Rattle.grid.specs.Below.{sumBelow, countBelow}
 use Rattle.grid_laws.proofs.Tests.{true-false, cond-true, cond-false}
 use Rattle.grid_laws.proofs.Below.{sum-ext, sum-zero, count-suc}
 use Rattle.count_laws.specs.Passing.{awaited, tally, isDone, undone, DonorsTo, FewDonors, Passing}
-use Rattle.count_laws.proofs.Sums.{same?, sum-ones, count-grows}
+use Rattle.count_laws.proofs.Sums.{same?, none-waiting, sum-ones, count-grows}
 use Rattle.count_laws.proofs.Words.{small-waiting, awaited-word, tally-word}
 
 module _ (n : ℕ) (mark : ℕ → ℕ) where
@@ -65,7 +65,7 @@ module _ (n : ℕ) (mark : ℕ → ℕ) where
           so-far =
               λ c l.
               ap tally (word-is c l) ∙ tally-word (countBelow n (λ d. eqb (mark d) c)) 0 (omega arith)
-              ∙ sym (sum-zero n (λ d. cond (eqb (mark d) c && isDone (word d)) (tally (word d) + 1) 0) (λ d h. nothing (eqb (mark d) c) (isDone (word d)) (tally (word d) + 1) (none-done d h)));
+              ∙ sym (sum-zero n (λ d. cond (eqb (mark d) c && isDone (word d)) (tally (word d) + 1) 0) (λ d h. none-waiting (eqb (mark d) c) (isDone (word d)) (tally (word d) + 1) (none-done d h)));
           donors-done = λ c d l h e t. true-false t (none-done c l);
           room =
               let a =
@@ -80,10 +80,6 @@ module _ (n : ℕ) (mark : ℕ → ℕ) where
         alone : (b e : Bool) → e ≡ false → _≡_ {A = ℕ} (cond b 1 0) (cond (b && not e) 1 0)
         alone true e q = rw q
         alone false e q = refl
-
-        nothing : (b e : Bool) (v : ℕ) → e ≡ false → cond (b && e) v 0 ≡ 0
-        nothing true e v q = rw q
-        nothing false e v q = refl
 
     pub all-undone : undone n word ≡ n
     unfolding undone countBelow

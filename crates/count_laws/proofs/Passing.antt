@@ -11,7 +11,7 @@ use Rattle.grid.specs.Below.{sumBelow, countBelow}
 use Rattle.count_laws.specs.Passing.{awaited, tally, isDone, undone, Passing}
 use Rattle.grid_laws.proofs.Tests.{test, true-false, cond-true}
 use Rattle.grid_laws.proofs.Below.{sum-ext, part-≤-sum}
-use Rattle.count_laws.proofs.Sums.{same?, sum-more, sum-two}
+use Rattle.count_laws.proofs.Sums.{same?, none-waiting, sum-more, sum-two}
 use Rattle.count_laws.proofs.Words.{ready-awaits, ready-tally, ready-waiting, closed-done, closed-tally, handed-awaits, handed-tally, handed-waiting}
 
 -- one number of a count
@@ -24,10 +24,6 @@ none-done false e q = refl
 
 none-other : (b e : Bool) (v : ℕ) → b ≡ false → cond (b && e) v 0 ≡ 0
 none-other b e v p = rw p
-
-none-waiting : (b e : Bool) (v : ℕ) → e ≡ false → cond (b && e) v 0 ≡ 0
-none-waiting true e v q = rw q
-none-waiting false e v q = refl
 
 all-of : (b e : Bool) (v : ℕ) → b ≡ true → e ≡ true → cond (b && e) v 0 ≡ v
 all-of b e v p q = rw (p, q)

@@ -1,7 +1,7 @@
 -- Sums over the numbers below n.
 use mathlib.Core.Path.{_≡_, refl, sym, _∙_, ap}
 use mathlib.Core.Logic.{_⊎_, inl, inr, ⊎-elim}
-use mathlib.Core.Bool.{Bool, not}
+use mathlib.Core.Bool.{Bool, true, false, not, cond, _&&_}
 use Prim.Native.Nat.{ℕ, zero, suc, _+_, _≤_, _<_}
 use native.Mathlib.Omega.{arith}
 use lib.Dec.{eqb}
@@ -12,6 +12,11 @@ use Rattle.grid_laws.proofs.Below.{sum-ext, sum-zero, part-≤-sum}
 
 pub same? : (a b : ℕ) → (a ≡ b) ⊎ (a ≡ b → ⊥)
 same? a b = ⊎-elim (λ e. inl (eqb-true a b e)) (λ e. inr (eqb-false a b e)) (test (eqb a b))
+
+-- a term that no second test lets in
+pub none-waiting : (b e : Bool) (v : ℕ) → e ≡ false → cond (b && e) v 0 ≡ 0
+none-waiting true e v q = rw q
+none-waiting false e v q = refl
 
 pub sum-plus : (n : ℕ) (f g : ℕ → ℕ) → sumBelow n (λ k. f k + g k) ≡ sumBelow n f + sumBelow n g
 unfolding sumBelow

@@ -3,6 +3,7 @@ use mathlib.Core.Path.{_≡_, refl, sym, _∙_, ap, subst}
 use mathlib.Core.List.{List, [], _∷_, map}
 use mathlib.Core.Logic.{_⊎_, inl, inr, ⊎-elim}
 use Prim.Native.Nat.{ℕ, zero, suc, _+_, _-_, _*_, _≤_, _<_}
+use native.Mathlib.Nat.{le-antisymm}
 use native.Mathlib.Omega.{arith}
 use native.Mathlib.Decide.{decLt, decLe, ℕ-discrete}
 use lib.ListN.{length, getD, length-map}
@@ -163,13 +164,10 @@ module _ {B limit n done : ℕ} {seen l : List Entry} {pairs ranks : List ℕ} (
   pair-agrees j h = same j h .1
 
   pub rank-agrees : (j : ℕ) → j < n → getD (ranksOf l) (done + j) 0 ≡ getD ranks j 0
-  rank-agrees j h = both upper (lower (place-of j long))
+  rank-agrees j h = le-antisymm upper (lower (place-of j long))
     where
       long : done + j < length l
       long = same j h .0
-
-      both : {u v : ℕ} → u ≤ v → v ≤ u → u ≡ v
-      both p q = omega arith
 
       upper : getD (ranksOf l) (done + j) 0 ≤ getD ranks j 0
       upper = let x = entry-of j h in subst (λ (m : ℕ). getD (ranksOf l) m 0 ≤ getD ranks j 0) (number (x .0) (x .2) (x .3)) (x .4)

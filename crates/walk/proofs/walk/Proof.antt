@@ -2,6 +2,7 @@
 use Prim.Native.Nat.{ℕ, _≤_, _<_, _+_, _-_}
 use mathlib.Core.Path.{_≡_, refl, sym, _∙_, subst}
 use mathlib.Core.Bool.{Bool, true, false}
+use native.Mathlib.Nat.{le-antisymm}
 use native.Mathlib.Omega.{arith}
 use borrow.Author.Needs.{needs}
 use borrow.Author.Tests.{not-true, not-false}
@@ -62,12 +63,9 @@ returns-2 c =
     let k = c .before in
     let s = k .before .before in
     let h = k .loop .inv .0 in
-    let e : k .loop .start ≡ s .args .n = both h (c .loop-test .left) in
+    let e : k .loop .start ≡ s .args .n = le-antisymm h (c .loop-test .left) in
     subst (λ (m : ℕ). Walked (s .args .n) (now (s .args .tail)) (k .loop .tail) m) (sym e)
     (walked-all (s .args .n) (now (s .args .tail)) (s .pre .1 .1) (s .pre .1 .0) (k .loop .tail) (subst (λ (m : ℕ). WalkedTo (s .args .n) m (now (s .args .tail)) (k .loop .tail)) e (k .loop .inv .1)))
-  where
-    both : {a b : ℕ} → a ≤ b → b ≤ a → a ≡ b
-    both h l = omega arith
 
 pub walk-spec : {M : Type 1} → statement M
 walk-spec =
