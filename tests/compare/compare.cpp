@@ -87,44 +87,23 @@ template <class T> static V<T> resized(const V<T> &v, size_t n) {
   return r;
 }
 
-#ifdef HAVE_FILL
-static void fill_round(const Desc &d, const V<i16> &e0, Lengths len, u64 round) {
-  V<i16> e = resized(e0, len.of(e0.size()));
-  Lent<i16> out(len.of(e0.size()));
-  Lent<u32> work(len.work(e0.size()));
-  V<i16> want = out.list();
-  Reply r = call_fill(d, e, want, work.n);
-  tervuola_answer a = tervuola_fill((u32)d.rows, (u32)d.cols, e.data(), e.size(), out.at(), out.n, work.at(), work.n);
-  same_answer("fill", a.number, a.place, r, round);
-  same_list("fill", "the filled sheet", out, want, round);
-  same_work("fill", a.number, work, round);
-}
-#endif
-#ifdef HAVE_DIRECTIONS
-static void directions_round(const Desc &d, const V<i16> &e0, Lengths len, u64 round) {
-  V<i16> e = resized(e0, len.of(e0.size()));
-  Lent<u8> out(len.of(e0.size()));
-  Lent<u32> work(len.work(e0.size()));
-  V<u8> want = out.list();
-  Reply r = call_directions(d, e, want, work.n);
-  tervuola_answer a = tervuola_directions((u32)d.rows, (u32)d.cols, e.data(), e.size(), out.at(), out.n, work.at(), work.n);
-  same_answer("directions", a.number, a.place, r, round);
-  same_list("directions", "the codes", out, want, round);
-  same_work("directions", a.number, work, round);
-}
-#endif
-typedef tervuola_answer (*from_codes)(u32, u32, const u8 *, size_t, u32 *, size_t, u32 *, size_t);
-typedef Reply (*said_of_codes)(u64, u64, const V<u8> &, V<u32> &, u64);
-static void codes_round(const char *name, from_codes call, said_of_codes said, const Desc &d, const V<u8> &c0, Lengths len, u64 round) {
-  V<u8> c = resized(c0, len.of(c0.size()));
-  Lent<u32> out(len.of(c0.size())), work(len.work(c0.size()));
-  V<u32> want = out.list();
-  Reply r = said(d.rows, d.cols, c, want, work.n);
-  tervuola_answer a = call((u32)d.rows, (u32)d.cols, c.data(), c.size(), out.at(), out.n, work.at(), work.n);
+// A call from one sheet to another; `said` is the second program's answer to it.
+template <class In, class Out>
+using sheet_call = tervuola_answer (*)(u32, u32, const In *, size_t, Out *, size_t, u32 *, size_t);
+template <class In, class Out, class Said>
+static void sheet_round(const char *name, sheet_call<In, Out> call, Said said, const Desc &d, const V<In> &in0, Lengths len, u64 round) {
+  V<In> in = resized(in0, len.of(in0.size()));
+  Lent<Out> out(len.of(in0.size()));
+  Lent<u32> work(len.work(in0.size()));
+  V<Out> want = out.list();
+  Reply r = said(d, in, want, work.n);
+  tervuola_answer a = call((u32)d.rows, (u32)d.cols, in.data(), in.size(), out.at(), out.n, work.at(), work.n);
   same_answer(name, a.number, a.place, r, round);
   same_list(name, "the result", out, want, round);
   same_work(name, a.number, work, round);
 }
+static Reply said_counts(const Desc &d, const V<u8> &c, V<u32> &out, u64 work) { return call_counts(d.rows, d.cols, c, out, work); }
+static Reply said_labels(const Desc &d, const V<u8> &c, V<u32> &out, u64 work) { return call_labels(d.rows, d.cols, c, out, work); }
 #ifdef HAVE_WATERSHEDS
 static void watersheds_round(const Desc &d, const V<u8> &c0, gen::Rng &g, Lengths len, u64 round) {
   V<u8> c = resized(c0, len.of(c0.size()));
@@ -262,17 +241,17 @@ static int rounds(u64 count, u64 seed) {
     d.rows = len.side(d.rows);
     d.cols = len.side(d.cols);
 #ifdef HAVE_FILL
-    fill_round(d, s.e, len, i);
+    sheet_round("fill", tervuola_fill, call_fill, d, s.e, len, i);
 #endif
 #ifdef HAVE_DIRECTIONS
-    directions_round(d, s.e, len, i);
-    directions_round(d, filled, len, i);
+    sheet_round("directions", tervuola_directions, call_directions, d, s.e, len, i);
+    sheet_round("directions", tervuola_directions, call_directions, d, filled, len, i);
 #endif
 #ifdef HAVE_COUNTS
-    codes_round("counts", tervuola_counts, call_counts, d, codes, len, i);
+    sheet_round("counts", tervuola_counts, said_counts, d, codes, len, i);
 #endif
 #ifdef HAVE_LABELS
-    codes_round("labels", tervuola_labels, call_labels, d, codes, len, i);
+    sheet_round("labels", tervuola_labels, said_labels, d, codes, len, i);
 #endif
 #ifdef HAVE_WATERSHEDS
     watersheds_round(d, codes, g, len, i);
@@ -309,16 +288,16 @@ static int big(const char *kind, u64 side) {
   V<u8> codes;
   directions(d, filled, codes);
 #ifdef HAVE_FILL
-  fill_round(d, s.e, len, 0);
+  sheet_round("fill", tervuola_fill, call_fill, d, s.e, len, 0);
 #endif
 #ifdef HAVE_DIRECTIONS
-  directions_round(d, filled, len, 0);
+  sheet_round("directions", tervuola_directions, call_directions, d, filled, len, 0);
 #endif
 #ifdef HAVE_COUNTS
-  codes_round("counts", tervuola_counts, call_counts, d, codes, len, 0);
+  sheet_round("counts", tervuola_counts, said_counts, d, codes, len, 0);
 #endif
 #ifdef HAVE_LABELS
-  codes_round("labels", tervuola_labels, call_labels, d, codes, len, 0);
+  sheet_round("labels", tervuola_labels, said_labels, d, codes, len, 0);
 #endif
 #ifdef HAVE_WATERSHEDS
   watersheds_round(d, codes, g, len, 0);
