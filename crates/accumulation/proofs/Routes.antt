@@ -25,7 +25,8 @@ tail-flow n t long M =
       from = λ d t₁ u. sym (mark-at n t d (live-below n (take n t) (M .long) d t₁) long);
     }
 
-pub all-counted : (n : ℕ) (t₀ t₁ : List ℕ) (left : ℕ) → Roomy n t₀ → Marks n (take n t₀) → Accumulated n t₀ t₁ left → left ≡ 0 → Counted n t₀ t₁ n
+pub all-counted : (n : ℕ) (t₀ t₁ : List ℕ) (left : ℕ) → Roomy n t₀ → Marks n (take n t₀) → Accumulated n t₀ t₁ left → left ≡ 0 →
+    Counted n t₀ t₁ n
 all-counted n t₀ t₁ left R M A e =
     let F = tail-flow n t₀ (let a = R .long in omega arith) M in
     let z : undone n (wordAt n t₁) ≡ 0 = sym (A .between .counted) ∙ e in
@@ -41,12 +42,14 @@ long-after n t₀ t₁ left R A = let a = R .long in let b = A .between .kept .s
 pub marks-after : (n : ℕ) (t₀ t₁ : List ℕ) (left : ℕ) → Accumulated n t₀ t₁ left → Marks n (take n t₀) → Marks n (take n t₁)
 marks-after n t₀ t₁ left A M = subst (λ (x : List ℕ). Marks n x) (sym (A .between .kept .same-marks)) M
 
-pub some-endless : (n : ℕ) (t₀ t₁ t₂ : List ℕ) (left r : ℕ) → Roomy n t₀ → Marks n (take n t₀) → Accumulated n t₀ t₁ left → (left ≡ 0 → ⊥) → Walked n t₁ t₂ r → Counted n t₀ t₂ r
+pub some-endless : (n : ℕ) (t₀ t₁ t₂ : List ℕ) (left r : ℕ) → Roomy n t₀ → Marks n (take n t₀) → Accumulated n t₀ t₁ left →
+    (left ≡ 0 → ⊥) → Walked n t₁ t₂ r → Counted n t₀ t₂ r
 some-endless n t₀ t₁ t₂ left r R M A f W =
     let F = tail-flow n t₀ (let a = R .long in omega arith) M in
     let q = A .between .counted in
     let l = left-some-endless F (wordAt n t₁) (A .between .passing) (let z : 0 < undone n (wordAt n t₁) = omega arith in z) (A .settled) in
-    let e : r ≡ firstUnending (liveAt n t₀) (nextAt n t₀) n = W .first ∙ ap (λ (x : List ℕ). firstUnending (liveIn n x) (nextIn n x) n) (A .between .kept .same-marks) in
+    let e : r ≡ firstUnending (liveAt n t₀) (nextAt n t₀) n =
+    W .first ∙ ap (λ (x : List ℕ). firstUnending (liveIn n x) (nextIn n x) n) (A .between .kept .same-marks) in
     record {
       first = e;
       same-marks = λ p. let z : ⊥ = omega arith in absurd z;

@@ -41,7 +41,8 @@ pub word-other : (n : ℕ) (t : List ℕ) (k v c : ℕ) → (c ≡ k → ⊥) �
 word-other n t k v c f = getD-set-other t (n + k) (n + c) v 0 (λ e. f (omega arith))
 
 -- ---- words of 0
-pub cleared-more : (n : ℕ) (t : List ℕ) (i : ℕ) → n + n ≤ length t → i < n → ((c : ℕ) → c < i → wordAt n t c ≡ 0) → (c : ℕ) → c < i + 1 → wordAt n (set t (n + i) 0) c ≡ 0
+pub cleared-more : (n : ℕ) (t : List ℕ) (i : ℕ) → n + n ≤ length t → i < n → ((c : ℕ) → c < i → wordAt n t c ≡ 0) → (c : ℕ) → c < i + 1 →
+    wordAt n (set t (n + i) 0) c ≡ 0
 cleared-more n t i h l z =
     below-more _ i (λ c k. word-other n t i 0 c (λ e. let y : ⊥ = omega arith in absurd y) ∙ z c k) (word-here n t i 0 h l)
 
@@ -54,7 +55,8 @@ kept-donor n t₀ t d K =
     (λ y. rw y K)
     (test (ltb (markAt t d) n))
 
-module _ (n : ℕ) (t₀ t : List ℕ) (d : ℕ) (R : Roomy n t₀) (K : Kept n t₀ t) (few : FewDonors n (markAt t₀)) (on : d < n) (D : DonorsTo n (markAt t₀) d (wordAt n t)) where
+module _ (n : ℕ) (t₀ t : List ℕ) (d : ℕ) (R : Roomy n t₀) (K : Kept n t₀ t) (few : FewDonors n (markAt t₀)) (on : d < n)
+    (D : DonorsTo n (markAt t₀) d (wordAt n t)) where
   pub donor-fits : (c : ℕ) → c < n → wordAt n t c ≤ 134217728
   donor-fits = donors-fit n (markAt t₀) few d on (wordAt n t) D
 
@@ -67,7 +69,8 @@ module _ (n : ℕ) (t₀ t : List ℕ) (d : ℕ) (R : Roomy n t₀) (K : Kept n 
       let l : markAt t d < n = omega arith in
       let y = lt-ltb (markAt t d) n l in
       let w : wordAt n (donorAdded n t d) (markAt t d) ≡ wordAt n t (markAt t d) + 16777216 =
-      rw y (word-here n t (markAt t d) (wordAt n t (markAt t d) + 16777216) (let a = R .long in let b = K .same-length in omega arith) l) in
+      rw y (word-here n t (markAt t d) (wordAt n t (markAt t d) + 16777216)
+      (let a = R .long in let b = K .same-length in omega arith) l) in
       subst (λ (x : ℕ). wordAt n (donorAdded n t d) x ≡ wordAt n t x + 16777216) same w)
       (λ k l f.
       ⊎-elim
@@ -83,7 +86,8 @@ pub donor-none : (n : ℕ) (t : List ℕ) (d next : ℕ) → next ≡ markAt t d
 unfolding donorAdded
 donor-none n t d next e h = rw (le-ltb (markAt t d) n (omega arith))
 
-pub donor-one : (n : ℕ) (t : List ℕ) (d next : ℕ) → next ≡ markAt t d → next < n → set t (n + next) (getD t (n + next) 0 + 16777216) ≡ donorAdded n t d
+pub donor-one : (n : ℕ) (t : List ℕ) (d next : ℕ) → next ≡ markAt t d → next < n →
+    set t (n + next) (getD t (n + next) 0 + 16777216) ≡ donorAdded n t d
 unfolding donorAdded
 donor-one n t d next e h = rw (lt-ltb (markAt t d) n (omega arith)) (rw e refl)
 
@@ -94,8 +98,11 @@ DonorsFrom n t₀ t d = (d ≤ n) × Kept n t₀ t × DonorsTo n (markAt t₀) d
 pub donors-start : (n : ℕ) (t : List ℕ) → ((c : ℕ) → c < n → wordAt n t c ≡ 0) → DonorsFrom n t t 0
 donors-start n t z = (omega arith, kept-none n t, donors-none n (markAt t) (wordAt n t) z)
 
-pub donors-turn : (n : ℕ) (t₀ t u : List ℕ) (d : ℕ) → Roomy n t₀ → FewDonors n (markAt t₀) → d < n → DonorsFrom n t₀ t d → u ≡ donorAdded n t d → DonorsFrom n t₀ u (d + 1)
-donors-turn n t₀ t u d R few l D e = subst (λ (x : List ℕ). DonorsFrom n t₀ x (d + 1)) (sym e) (omega arith, kept-donor n t₀ t d (D .1), donor-counted n t₀ t d R (D .1) few l (D .2))
+pub donors-turn : (n : ℕ) (t₀ t u : List ℕ) (d : ℕ) → Roomy n t₀ → FewDonors n (markAt t₀) → d < n → DonorsFrom n t₀ t d →
+    u ≡ donorAdded n t d → DonorsFrom n t₀ u (d + 1)
+donors-turn n t₀ t u d R few l D e =
+    subst (λ (x : List ℕ). DonorsFrom n t₀ x (d + 1)) (sym e)
+    (omega arith, kept-donor n t₀ t d (D .1), donor-counted n t₀ t d R (D .1) few l (D .2))
 
 pub donors-end : (n : ℕ) (t₀ t : List ℕ) (d : ℕ) → DonorsFrom n t₀ t d → n ≤ d → Kept n t₀ t × DonorsTo n (markAt t₀) n (wordAt n t)
 donors-end n t₀ t d D h =
@@ -104,4 +111,6 @@ donors-end n t₀ t d D h =
 
 pub same-few : (n : ℕ) (t₀ t : List ℕ) → Kept n t₀ t → FewDonors n (markAt t₀) → FewDonors n (markAt t)
 same-few n t₀ t K few c l =
-    subst (λ (x : ℕ). x ≤ 8) (count-ext n (λ d. eqb (markAt t₀ d) c) (λ d. eqb (markAt t d) c) (λ d h. ap (λ (x : ℕ). eqb x c) (sym (kept-mark n t₀ t K d h)))) (few c l)
+    subst (λ (x : ℕ). x ≤ 8)
+    (count-ext n (λ d. eqb (markAt t₀ d) c) (λ d. eqb (markAt t d) c) (λ d h. ap (λ (x : ℕ). eqb x c) (sym (kept-mark n t₀ t K d h))))
+    (few c l)

@@ -15,13 +15,18 @@ use Rattle.count_laws.proofs.Sums.{same?}
 use Rattle.count_laws.proofs.Words.{more-awaits, waiting-small}
 use Rattle.count_laws.proofs.Passing.{same-passing, no-ring-of-one, receiver-waits, receiver-awaits, pass-one, pass-less}
 use Rattle.count_laws.proofs.Donors.{pass-begins, all-undone}
-use Rattle.accumulation.specs.Tail.{markAt, wordAt, Roomy, Kept, closed, handedWord, passed, onward, Ready, Between, Settled, Down, Going, Accumulated}
+use Rattle.accumulation.specs.Tail.{markAt, wordAt, Roomy, Kept, closed, handedWord, passed, onward, Ready, Between, Settled, Down}
+use Rattle.accumulation.specs.Tail.{Going, Accumulated}
 use Rattle.accumulation.proofs.Stores.{kept-none, kept-store, kept-twice, kept-mark, word-here, word-other}
 
 -- the words of the tail after the counting of donors begin the pass
 pub begins : (n : ℕ) (t₀ t : List ℕ) → Kept n t₀ t → FewDonors n (markAt t₀) → DonorsTo n (markAt t₀) n (wordAt n t) → Between n t₀ t n
 begins n t₀ t K few D =
-    record { kept = K; passing = pass-begins n (markAt t₀) few (wordAt n t) D; counted = sym (all-undone n (markAt t₀) few (wordAt n t) D) }
+    record {
+      kept = K;
+      passing = pass-begins n (markAt t₀) few (wordAt n t) D;
+      counted = sym (all-undone n (markAt t₀) few (wordAt n t) D);
+    }
 
 -- the marks of two tails are the same: what is said with those of the one holds with those of the other
 pub again-between : (n : ℕ) (t₀ t : List ℕ) (left : ℕ) → Between n t₀ t left → Between n t t left
@@ -40,7 +45,8 @@ then-between n t₀ t u left K B =
       counted = B .counted;
     }
 
-module _ (n : ℕ) (t₀ t : List ℕ) (left c : ℕ) (R : Roomy n t₀) (B : Between n t₀ t left) (on : c < n) (ready : wordAt n t c < 16777216) where
+module _ (n : ℕ) (t₀ t : List ℕ) (left c : ℕ) (R : Roomy n t₀) (B : Between n t₀ t left) (on : c < n)
+    (ready : wordAt n t c < 16777216) where
   same : markAt t c ≡ markAt t₀ c
   same = kept-mark n t₀ t (B .kept) c on
 
@@ -50,8 +56,12 @@ module _ (n : ℕ) (t₀ t : List ℕ) (left c : ℕ) (R : Roomy n t₀) (B : Be
         on = on;
         none-awaited = ready;
         other = λ h e. no-ring-of-one n (markAt t₀) (wordAt n t) (B .passing) c on ready (sym same ∙ e);
-        awaits = λ h. rw same (more-awaits (wordAt n t (markAt t₀ c)) (receiver-awaits n (markAt t₀) (wordAt n t) (B .passing) c on ready (far h)));
-        waits = λ h. rw same (waiting-small (wordAt n t (markAt t₀ c)) (receiver-waits n (markAt t₀) (wordAt n t) (B .passing) c on ready (far h)));
+        awaits =
+            λ h. rw same
+            (more-awaits (wordAt n t (markAt t₀ c)) (receiver-awaits n (markAt t₀) (wordAt n t) (B .passing) c on ready (far h)));
+        waits =
+            λ h. rw same
+            (waiting-small (wordAt n t (markAt t₀ c)) (receiver-waits n (markAt t₀) (wordAt n t) (B .passing) c on ready (far h)));
       }
     where
       far : markAt t c < n → markAt t₀ c < n
@@ -68,7 +78,8 @@ module _ (n : ℕ) (t₀ t : List ℕ) (left c : ℕ) (R : Roomy n t₀) (B : Be
   unfolding passed closed
   word-closed =
       ⊎-elim
-      (λ y. rw y (word-other n (set t (n + c) (wordAt n t c + 4278190080)) (markAt t c) (handedWord n t c) c (λ e. not-self (sym e)) ∙ word-here n t c (wordAt n t c + 4278190080) long on))
+      (λ y. rw y (word-other n (set t (n + c) (wordAt n t c + 4278190080)) (markAt t c) (handedWord n t c) c (λ e. not-self (sym e))
+      ∙ word-here n t c (wordAt n t c + 4278190080) long on))
       (λ y. rw y (word-here n t c (wordAt n t c + 4278190080) long on))
       (test (ltb (markAt t c) n))
 
@@ -76,13 +87,15 @@ module _ (n : ℕ) (t₀ t : List ℕ) (left c : ℕ) (R : Roomy n t₀) (B : Be
   unfolding passed closed
   word-handed h =
       rw (lt-ltb (markAt t c) n h)
-      (word-here n (set t (n + c) (wordAt n t c + 4278190080)) (markAt t c) (handedWord n t c) (rw (length-set t (n + c) (wordAt n t c + 4278190080)) long) h)
+      (word-here n (set t (n + c) (wordAt n t c + 4278190080)) (markAt t c) (handedWord n t c)
+      (rw (length-set t (n + c) (wordAt n t c + 4278190080)) long) h)
 
   pub word-kept : (k : ℕ) → (k ≡ c → ⊥) → (k ≡ markAt t c → ⊥) → wordAt n (passed n t c) k ≡ wordAt n t k
   unfolding passed closed
   word-kept k f g =
       ⊎-elim
-      (λ y. rw y (word-other n (set t (n + c) (wordAt n t c + 4278190080)) (markAt t c) (handedWord n t c) k g ∙ word-other n t c (wordAt n t c + 4278190080) k f))
+      (λ y. rw y (word-other n (set t (n + c) (wordAt n t c + 4278190080)) (markAt t c) (handedWord n t c) k g
+      ∙ word-other n t c (wordAt n t c + 4278190080) k f))
       (λ y. rw y (word-other n t c (wordAt n t c + 4278190080) k f))
       (test (ltb (markAt t c) n))
 
@@ -98,13 +111,18 @@ module _ (n : ℕ) (t₀ t : List ℕ) (left c : ℕ) (R : Roomy n t₀) (B : Be
       first = kept-store n t₀ t c (wordAt n t c + 4278190080) (B .kept)
 
   handed-there : markAt t₀ c < n → wordAt n (passed n t c) (markAt t₀ c) ≡ wordAt n t (markAt t₀ c) - 16777216 + wordAt n t c + 1
-  handed-there h = subst (λ (x : ℕ). wordAt n (passed n t c) x ≡ wordAt n t x - 16777216 + wordAt n t c + 1) same (word-handed (let s = same in let l : markAt t c < n = omega arith in l))
+  handed-there h =
+      subst (λ (x : ℕ). wordAt n (passed n t c) x ≡ wordAt n t x - 16777216 + wordAt n t c + 1) same
+      (word-handed (let s = same in let l : markAt t c < n = omega arith in l))
 
   kept-there : (k : ℕ) → k < n → (k ≡ c → ⊥) → (k ≡ markAt t₀ c → ⊥) → wordAt n (passed n t c) k ≡ wordAt n t k
   kept-there k l f g = word-kept k f (λ e. g (e ∙ same))
 
   one-less : left ≡ undone n (wordAt n (passed n t c)) + 1
-  one-less = B .counted ∙ pass-less n (markAt t₀) (wordAt n t) (B .passing) c on ready (R .small) (wordAt n (passed n t c)) word-closed handed-there kept-there
+  one-less =
+      B .counted
+      ∙ pass-less n (markAt t₀) (wordAt n t) (B .passing) c on ready (R .small) (wordAt n (passed n t c)) word-closed
+      handed-there kept-there
 
   pub some-left : 1 ≤ left
   some-left = let a = one-less in omega arith
@@ -113,7 +131,9 @@ module _ (n : ℕ) (t₀ t : List ℕ) (left c : ℕ) (R : Roomy n t₀) (B : Be
   passes =
       record {
         kept = kept-passed;
-        passing = pass-one n (markAt t₀) (wordAt n t) (B .passing) c on ready (R .small) (wordAt n (passed n t c)) word-closed handed-there kept-there;
+        passing =
+            pass-one n (markAt t₀) (wordAt n t) (B .passing) c on ready (R .small) (wordAt n (passed n t c)) word-closed handed-there
+            kept-there;
         counted = let a = one-less in omega arith;
       }
 
@@ -122,7 +142,8 @@ pub down-starts : (n start : ℕ) (t : List ℕ) (left : ℕ) → Between n t t 
 down-starts n start t left B h =
     record { between = B; settled = λ k l f w. ⊎-elim (λ e. absurd (f e)) (λ s. s) w; in-hand = λ l. h }
 
-pub down-on : (n start : ℕ) (t₀ t : List ℕ) (c left : ℕ) → Roomy n t₀ → Going n start t₀ t c left → c < n → Going n start t₀ (passed n t c) (onward n t c) (left - 1)
+pub down-on : (n start : ℕ) (t₀ t : List ℕ) (c left : ℕ) → Roomy n t₀ → Going n start t₀ t c left → c < n →
+    Going n start t₀ (passed n t c) (onward n t c) (left - 1)
 unfolding onward
 down-on n start t₀ t c left R G on =
     record { between = passes n t₀ t left c R (G .between) on ready; settled = stays; in-hand = next }
@@ -159,7 +180,8 @@ down-on n start t₀ t c left R G on =
     next : onward n t c < n → wordAt n (passed n t c) (onward n t c) < 16777216
     next h =
         ⊎-elim
-        (λ y. ⊎-elim (λ z. here (ltb-true (markAt t c) n y) (ltb-true (handedWord n t c) 16777216 z)) (λ z. stuck y z) (test (ltb (handedWord n t c) 16777216)))
+        (λ y. ⊎-elim (λ z. here (ltb-true (markAt t c) n y) (ltb-true (handedWord n t c) 16777216 z)) (λ z. stuck y z)
+        (test (ltb (handedWord n t c) 16777216)))
         (λ y. let e : onward n t c ≡ n = cond-false _ _ y in let x : ⊥ = omega arith in absurd x)
         (test (ltb (markAt t c) n))
       where
@@ -169,7 +191,8 @@ down-on n start t₀ t c left R G on =
         here : markAt t c < n → handedWord n t c < 16777216 → wordAt n (passed n t c) (onward n t c) < 16777216
         here far l = let a = word-handed n t₀ t left c R (G .between) on ready far in rw (onto far l) (omega arith)
 
-pub down-turn : (n start : ℕ) (t₀ t u : List ℕ) (c next left : ℕ) → Roomy n t₀ → Going n start t₀ t c left → c < n → u ≡ passed n t c → next ≡ onward n t c
+pub down-turn : (n start : ℕ) (t₀ t u : List ℕ) (c next left : ℕ) → Roomy n t₀ → Going n start t₀ t c left → c < n → u ≡ passed n t c →
+    next ≡ onward n t c
     → Going n start t₀ u next (left - 1)
 down-turn n start t₀ t u c next left R G on e q = rw e (rw q (down-on n start t₀ t c left R G on))
 
@@ -183,7 +206,8 @@ module _ (n : ℕ) (t : List ℕ) (c next : ℕ) (e : next ≡ markAt t c) where
   unfolding passed closed onward
   closes h = let y = le-ltb (markAt t c) n (let l : n ≤ markAt t c = omega arith in l) in (rw y, rw y)
 
-  pub hands : next < n → set (set t (n + c) (getD t (n + c) 0 + 4278190080)) (n + next) (getD t (n + next) 0 - 16777216 + getD t (n + c) 0 + 1) ≡ passed n t c
+  pub hands : next < n →
+      set (set t (n + c) (getD t (n + c) 0 + 4278190080)) (n + next) (getD t (n + next) 0 - 16777216 + getD t (n + c) 0 + 1) ≡ passed n t c
   unfolding passed closed
   hands h = rw (lt-ltb (markAt t c) n (let l : markAt t c < n = omega arith in l)) (rw e refl)
 
@@ -218,7 +242,8 @@ Scanning n t₀ t left i = (i ≤ n) × Between n t₀ t left × Settled n i t
 pub scan-starts : (n : ℕ) (t : List ℕ) → Between n t t n → Scanning n t t n 0
 scan-starts n t B = (omega arith, B, λ k l. let z : ⊥ = omega arith in absurd z)
 
-pub scan-turn : (n : ℕ) (t₀ t u : List ℕ) (left left′ i : ℕ) → Scanning n t₀ t left i → i < n → Down n i t u left′ → Scanning n t₀ u left′ (i + 1)
+pub scan-turn : (n : ℕ) (t₀ t u : List ℕ) (left left′ i : ℕ) → Scanning n t₀ t left i → i < n → Down n i t u left′ →
+    Scanning n t₀ u left′ (i + 1)
 scan-turn n t₀ t u left left′ i S on D = (
   omega arith,
   then-between n t₀ t u left′ (S .1 .kept) (D .between),

@@ -79,7 +79,8 @@ pub record Accumulated (n : ℕ) (t₀ t₁ : List ℕ) (left : ℕ) : Type 0 wh
   pub between : Between n t₀ t₁ left
   pub settled : Settled n n t₁
 
--- the routes of the marks at entry: r is the first cell whose route does not end, or n; then the marks stand, and each word has its cell's count
+-- the routes of the marks at entry: r is the first cell whose route does not end, or n; then the marks stand, and each word has its cell's
+-- count
 pub record Counted (n : ℕ) (t₀ t₁ : List ℕ) (r : ℕ) : Type 0 where
   pub first : r ≡ firstUnending (liveAt n t₀) (nextAt n t₀) n
   pub same-marks : r ≡ n → take n t₁ ≡ take n t₀

@@ -1,14 +1,16 @@
 // Flow accumulation. "The count of a cell is the number of other cells whose routes contain it": the sum, over the cells that flow into
-// it, of 1 and their counts. The tail of the work buffer holds the marks of `route_laws` (where each cell flows), and after them a word for
-// each cell: the donors still to come and the count so far. A cell with no donors to come hands its count and 1 down, and the walk goes on
-// with its receiver as soon as that awaits no more; so each cell is passed once, with no queue. If a cell is never passed, some route does
-// not end. Proved by what one passing keeps (`count_laws`, `Passing`), and by what then holds when all cells are done, or some are not.
+// it, of 1 and their counts. The tail of the work buffer holds the marks of `route_laws` (where each cell flows), and after them a word
+// for each cell: the donors still to come and the count so far. A cell with no donors to come hands its count and 1 down, and the walk
+// goes on with its receiver as soon as that awaits no more; so each cell is passed once, with no queue. If a cell is never passed, some
+// route does not end. Proved by what one passing keeps (`count_laws`, `Passing`), and by what then holds when all cells are done, or some
+// are not.
 ghost use mathlib.Core.Path.{_≡_};
 ghost use Prim.Native.Nat.{ℕ, _+_, _<_, _≤_};
 ghost use lib.ListN.{length, getD, take};
 ghost use Rattle.count_laws.specs.Passing.{FewDonors, DonorsTo};
 ghost use Rattle.route_laws.specs.Receivers.{Marks};
-ghost use Rattle.accumulation.specs.Tail.{markAt, wordAt, Roomy, Kept, donorAdded, passed, onward, Ready, Between, Down, Accumulated, Counted};
+ghost use Rattle.accumulation.specs.Tail.{markAt, wordAt, Roomy, Kept, donorAdded, passed, onward, Ready, Between, Down};
+ghost use Rattle.accumulation.specs.Tail.{Accumulated, Counted};
 
 // The awaited donors of a word begin at UNIT; a word of DONE or more is that of a cell that has handed its count on.
 const UNIT: u32 = 16777216;
@@ -130,8 +132,8 @@ fn scan(n: usize, tail: &mut [u32]) -> usize
     left
 }
 
-// The counts of the sheet whose marks begin the tail, in the words after them; the result is the number of cells that are not done: 0 where
-// every route ends.
+// The counts of the sheet whose marks begin the tail, in the words after them; the result is the number of cells that are not done: 0
+// where every route ends.
 pub fn accumulate(n: usize, tail: &mut [u32]) -> usize
     requires { ⌜ Roomy n (now tail) ⌝ }
     requires { ⌜ FewDonors n (markAt (now tail)) ⌝ }

@@ -64,7 +64,8 @@ module _ (g : Grid) (inputs results : List ℕ) (later : Answer) where
 
     pub sheets-yes : allHave (size g) inputs ≡ true → allHave (size g) results ≡ true → askSheets g inputs results later ≡ later
     unfolding askSheets askSize
-    sheets-yes i s = cond-true _ (refusal 5 0) r ∙ cond-true _ (refusal 6 0) c ∙ cond-true _ (refusal 7 0) i ∙ cond-true later (refusal 8 0) s
+    sheets-yes i s =
+        cond-true _ (refusal 5 0) r ∙ cond-true _ (refusal 6 0) c ∙ cond-true _ (refusal 7 0) i ∙ cond-true later (refusal 8 0) s
 
 pub work-no : (g : Grid) (work : ℕ) (later : Answer) → work < 4 * size g → askWork g work later ≡ refusal 9 0
 unfolding askWork
@@ -92,7 +93,8 @@ pub record Refused (g : Grid) (inputs results : List ℕ) (work : ℕ) : Type 0 
   pub stands : (later : Answer) → askSheets g inputs results (askWork g work later) ≡ askSheets g inputs results (askWork g work accepted)
 
 module _ (g : Grid) (inputs results : List ℕ) (work : ℕ) where
-  no-of : (number : ℕ) → 0 < number → number ≤ 9 → ((later : Answer) → askSheets g inputs results (askWork g work later) ≡ refusal number 0) → Refused g inputs results work
+  no-of : (number : ℕ) → 0 < number → number ≤ 9 →
+      ((later : Answer) → askSheets g inputs results (askWork g work later) ≡ refusal number 0) → Refused g inputs results work
   no-of number l h e =
       record {
         low = rw (e accepted) l;
@@ -100,7 +102,8 @@ module _ (g : Grid) (inputs results : List ℕ) (work : ℕ) where
         stands = λ later. e later ∙ sym (e accepted);
       }
 
-  yes-of : inRange (g .rows) ≡ true → inRange (g .cols) ≡ true → allHave (size g) inputs ≡ true → allHave (size g) results ≡ true → 4 * size g ≤ work → Passed g inputs results work
+  yes-of : inRange (g .rows) ≡ true → inRange (g .cols) ≡ true → allHave (size g) inputs ≡ true → allHave (size g) results ≡ true →
+      4 * size g ≤ work → Passed g inputs results work
   yes-of r c i s w =
       record {
         fits = fits-of-range g r c;
@@ -113,19 +116,28 @@ module _ (g : Grid) (inputs results : List ℕ) (work : ℕ) where
   pub passed-or-refused : Passed g inputs results work ⊎ Refused g inputs results work
   passed-or-refused = by-rows (test (inRange (g .rows)))
     where
-      by-work : inRange (g .rows) ≡ true → inRange (g .cols) ≡ true → allHave (size g) inputs ≡ true → allHave (size g) results ≡ true → Dec (4 * size g ≤ work) → Passed g inputs results work ⊎ Refused g inputs results work
+      by-work : inRange (g .rows) ≡ true → inRange (g .cols) ≡ true → allHave (size g) inputs ≡ true → allHave (size g) results ≡ true →
+          Dec (4 * size g ≤ work) → Passed g inputs results work ⊎ Refused g inputs results work
       by-work r c i s (yes w) = inl (yes-of r c i s w)
-      by-work r c i s (no f) = inr (no-of 9 (omega arith) (omega arith) (λ later. sheets-yes g inputs results (askWork g work later) r c i s ∙ work-no g work later (omega arith)))
+      by-work r c i s (no f) =
+          inr (no-of 9 (omega arith) (omega arith)
+          (λ later. sheets-yes g inputs results (askWork g work later) r c i s ∙ work-no g work later (omega arith)))
 
-      by-results : inRange (g .rows) ≡ true → inRange (g .cols) ≡ true → allHave (size g) inputs ≡ true → (allHave (size g) results ≡ true) ⊎ (allHave (size g) results ≡ false) → Passed g inputs results work ⊎ Refused g inputs results work
+      by-results : inRange (g .rows) ≡ true → inRange (g .cols) ≡ true → allHave (size g) inputs ≡ true →
+          (allHave (size g) results ≡ true) ⊎ (allHave (size g) results ≡ false) →
+          Passed g inputs results work ⊎ Refused g inputs results work
       by-results r c i (inl s) = by-work r c i s (native.Mathlib.Decide.decLe (4 * size g) work)
-      by-results r c i (inr s) = inr (no-of 8 (omega arith) (omega arith) (λ later. results-no g inputs results (askWork g work later) r c i s))
+      by-results r c i (inr s) =
+          inr (no-of 8 (omega arith) (omega arith) (λ later. results-no g inputs results (askWork g work later) r c i s))
 
-      by-inputs : inRange (g .rows) ≡ true → inRange (g .cols) ≡ true → (allHave (size g) inputs ≡ true) ⊎ (allHave (size g) inputs ≡ false) → Passed g inputs results work ⊎ Refused g inputs results work
+      by-inputs : inRange (g .rows) ≡ true → inRange (g .cols) ≡ true →
+          (allHave (size g) inputs ≡ true) ⊎ (allHave (size g) inputs ≡ false) →
+          Passed g inputs results work ⊎ Refused g inputs results work
       by-inputs r c (inl i) = by-results r c i (test (allHave (size g) results))
       by-inputs r c (inr i) = inr (no-of 7 (omega arith) (omega arith) (λ later. inputs-no g inputs results (askWork g work later) r c i))
 
-      by-cols : inRange (g .rows) ≡ true → (inRange (g .cols) ≡ true) ⊎ (inRange (g .cols) ≡ false) → Passed g inputs results work ⊎ Refused g inputs results work
+      by-cols : inRange (g .rows) ≡ true → (inRange (g .cols) ≡ true) ⊎ (inRange (g .cols) ≡ false) →
+          Passed g inputs results work ⊎ Refused g inputs results work
       by-cols r (inl c) = by-inputs r c (test (allHave (size g) inputs))
       by-cols r (inr c) = inr (no-of 6 (omega arith) (omega arith) (λ later. cols-no g inputs results (askWork g work later) r c))
 
@@ -163,7 +175,8 @@ unfolding allHave
 have-rest n a l e = and-right (eqb a n) (allHave n l) e
 
 -- askSheets looks at its lists by allHave alone
-pub same-lists : (g : Grid) (i i' r r' : List ℕ) (later : Answer) → allHave (size g) i ≡ allHave (size g) i' → allHave (size g) r ≡ allHave (size g) r' → askSheets g i r later ≡ askSheets g i' r' later
+pub same-lists : (g : Grid) (i i' r r' : List ℕ) (later : Answer) → allHave (size g) i ≡ allHave (size g) i' →
+    allHave (size g) r ≡ allHave (size g) r' → askSheets g i r later ≡ askSheets g i' r' later
 unfolding askSheets
 same-lists g i i' r r' later p q = ap₂ (λ (x y : Bool). askSize g (ask x (refusal 7 0) (ask y (refusal 8 0) later))) p q
 
@@ -172,11 +185,16 @@ results-again : (n r : ℕ) → allHave n (r ∷ r ∷ r ∷ r ∷ []) ≡ allHa
 results-again n r = have-again n r (r ∷ r ∷ []) ∙ have-again n r (r ∷ []) ∙ have-again n r []
 
 -- what `check` answers for one input sheet, for two, and for one with four results
-pub one-input : (g : Grid) (a r : ℕ) (later : Answer) → askSheets g (a ∷ a ∷ []) (r ∷ r ∷ r ∷ r ∷ []) later ≡ askSheets g (a ∷ []) (r ∷ []) later
-one-input g a r later = same-lists g (a ∷ a ∷ []) (a ∷ []) (r ∷ r ∷ r ∷ r ∷ []) (r ∷ []) later (have-again (size g) a []) (results-again (size g) r)
+pub one-input : (g : Grid) (a r : ℕ) (later : Answer) →
+    askSheets g (a ∷ a ∷ []) (r ∷ r ∷ r ∷ r ∷ []) later ≡ askSheets g (a ∷ []) (r ∷ []) later
+one-input g a r later =
+    same-lists g (a ∷ a ∷ []) (a ∷ []) (r ∷ r ∷ r ∷ r ∷ []) (r ∷ []) later (have-again (size g) a []) (results-again (size g) r)
 
-pub two-inputs : (g : Grid) (a b r : ℕ) (later : Answer) → askSheets g (a ∷ b ∷ []) (r ∷ r ∷ r ∷ r ∷ []) later ≡ askSheets g (a ∷ b ∷ []) (r ∷ []) later
+pub two-inputs : (g : Grid) (a b r : ℕ) (later : Answer) →
+    askSheets g (a ∷ b ∷ []) (r ∷ r ∷ r ∷ r ∷ []) later ≡ askSheets g (a ∷ b ∷ []) (r ∷ []) later
 two-inputs g a b r later = same-lists g (a ∷ b ∷ []) (a ∷ b ∷ []) (r ∷ r ∷ r ∷ r ∷ []) (r ∷ []) later refl (results-again (size g) r)
 
-pub four-results : (g : Grid) (a b c d e : ℕ) (later : Answer) → askSheets g (a ∷ a ∷ []) (b ∷ c ∷ d ∷ e ∷ []) later ≡ askSheets g (a ∷ []) (b ∷ c ∷ d ∷ e ∷ []) later
-four-results g a b c d e later = same-lists g (a ∷ a ∷ []) (a ∷ []) (b ∷ c ∷ d ∷ e ∷ []) (b ∷ c ∷ d ∷ e ∷ []) later (have-again (size g) a []) refl
+pub four-results : (g : Grid) (a b c d e : ℕ) (later : Answer) →
+    askSheets g (a ∷ a ∷ []) (b ∷ c ∷ d ∷ e ∷ []) later ≡ askSheets g (a ∷ []) (b ∷ c ∷ d ∷ e ∷ []) later
+four-results g a b c d e later =
+    same-lists g (a ∷ a ∷ []) (a ∷ []) (b ∷ c ∷ d ∷ e ∷ []) (b ∷ c ∷ d ∷ e ∷ []) later (have-again (size g) a []) refl

@@ -1,5 +1,5 @@
--- A call from codes to one list of numbers, the counts or the labels: from the answers to its questions to what it promises. k₀ is the result list
--- at entry, w₀ the work buffer, `made` the list that the call makes where every answer is yes.
+-- A call from codes to one list of numbers, the counts or the labels: from the answers to its questions to what it promises. k₀ is the
+-- result list at entry, w₀ the work buffer, `made` the list that the call makes where every answer is yes.
 use mathlib.Core.Path.{_≡_, refl, sym, _∙_, ap}
 use mathlib.Core.Bool.{cond}
 use mathlib.Core.List.{List, [], _∷_}
@@ -44,7 +44,8 @@ module _ (g : Grid) (codes k₀ w₀ : List ℕ) (r : Answer)
   number-asked : (askSheets g (inputs codes) (results k₀) (askWork g (length w₀) accepted)) .number ≡ r .number
   number-asked = ap (λ (a : Answer). a .number) (sym asked)
 
-  whole : askSheets g (inputs codes) (results k₀) (askWork g (length w₀) (askCodes g codes accepted)) ≡ codesCheck g codes (length k₀) (length w₀)
+  whole : askSheets g (inputs codes) (results k₀) (askWork g (length w₀) (askCodes g codes accepted))
+      ≡ codesCheck g codes (length k₀) (length w₀)
   unfolding codesCheck
   whole = one-input g (length codes) (length k₀) (askWork g (length w₀) (askCodes g codes accepted))
 

@@ -31,10 +31,13 @@ module _ (g : Grid) (codes : List ℕ) (later : Answer) where
   unfolding askCodes
   codes-bad h = cell-no 11 (firstBadCode g codes) g (askCell 12 g (firstEndless g codes) later) h
 
-  pub codes-endless : firstBadCode g codes ≡ size g → firstEndless g codes < size g → askCodes g codes later ≡ refusal 12 (firstEndless g codes)
+  pub codes-endless : firstBadCode g codes ≡ size g → firstEndless g codes < size g →
+      askCodes g codes later ≡ refusal 12 (firstEndless g codes)
   unfolding askCodes
-  codes-endless e h = cell-yes 11 (firstBadCode g codes) g (askCell 12 g (firstEndless g codes) later) e ∙ cell-no 12 (firstEndless g codes) g later h
+  codes-endless e h =
+      cell-yes 11 (firstBadCode g codes) g (askCell 12 g (firstEndless g codes) later) e ∙ cell-no 12 (firstEndless g codes) g later h
 
   pub codes-yes : firstBadCode g codes ≡ size g → firstEndless g codes ≡ size g → askCodes g codes later ≡ later
   unfolding askCodes
-  codes-yes e q = cell-yes 11 (firstBadCode g codes) g (askCell 12 g (firstEndless g codes) later) e ∙ cell-yes 12 (firstEndless g codes) g later q
+  codes-yes e q =
+      cell-yes 11 (firstBadCode g codes) g (askCell 12 g (firstEndless g codes) later) e ∙ cell-yes 12 (firstEndless g codes) g later q

@@ -1,5 +1,6 @@
-// The questions that every call with sheets asks first, 5 to 9 of "Questions at the gate", answered by one function on the lengths of its lists.
-// `proofs/Asked.antt` carries the answer to each call's own definition in `grid`: what is asked after it, and the sizes after a yes.
+// The questions that every call with sheets asks first, 5 to 9 of "Questions at the gate", answered by one function on the lengths of its
+// lists. `proofs/Asked.antt` carries the answer to each call's own definition in `grid`: what is asked after it, and the sizes after a
+// yes.
 use grid::Answer;
 use grid::Grid;
 ghost use mathlib.Core.Path.{_≡_};

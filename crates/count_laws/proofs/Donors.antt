@@ -24,7 +24,8 @@ module _ (n : ℕ) (mark : ℕ → ℕ) where
     pub donors-fit : (c : ℕ) → c < n → word c ≤ 134217728
     donors-fit c l = let a = D c l in let b = count-grows i n (λ d. eqb (mark d) c) (omega arith) in let f = few c l in omega arith
 
-    pub donors-more : (word′ : ℕ → ℕ) → (mark i < n → word′ (mark i) ≡ word (mark i) + 16777216) → ((k : ℕ) → k < n → (k ≡ mark i → ⊥) → word′ k ≡ word k)
+    pub donors-more : (word′ : ℕ → ℕ) → (mark i < n → word′ (mark i) ≡ word (mark i) + 16777216) →
+        ((k : ℕ) → k < n → (k ≡ mark i → ⊥) → word′ k ≡ word k)
         → DonorsTo n mark (i + 1) word′
     donors-more word′ handed kept c l = ⊎-elim here there (same? c (mark i))
       where
@@ -61,11 +62,13 @@ module _ (n : ℕ) (mark : ℕ → ℕ) where
           to-come =
               λ c l f.
               ap awaited (word-is c l) ∙ awaited-word (countBelow n (λ d. eqb (mark d) c)) 0 (omega arith)
-              ∙ sum-ext n (λ d. cond (eqb (mark d) c) 1 0) (λ d. cond (eqb (mark d) c && not (isDone (word d))) 1 0) (λ d h. alone (eqb (mark d) c) (isDone (word d)) (none-done d h));
+              ∙ sum-ext n (λ d. cond (eqb (mark d) c) 1 0) (λ d. cond (eqb (mark d) c && not (isDone (word d))) 1 0)
+              (λ d h. alone (eqb (mark d) c) (isDone (word d)) (none-done d h));
           so-far =
               λ c l.
               ap tally (word-is c l) ∙ tally-word (countBelow n (λ d. eqb (mark d) c)) 0 (omega arith)
-              ∙ sym (sum-zero n (λ d. cond (eqb (mark d) c && isDone (word d)) (tally (word d) + 1) 0) (λ d h. none-waiting (eqb (mark d) c) (isDone (word d)) (tally (word d) + 1) (none-done d h)));
+              ∙ sym (sum-zero n (λ d. cond (eqb (mark d) c && isDone (word d)) (tally (word d) + 1) 0)
+              (λ d h. none-waiting (eqb (mark d) c) (isDone (word d)) (tally (word d) + 1) (none-done d h)));
           donors-done = λ c d l h e t. true-false t (none-done c l);
           room =
               let a =

@@ -1,5 +1,6 @@
--- How the pass ends. Where every cell is done, each count is the sum over the donors, so it rises along a route: every route ends, and the counts are
--- those of the definition. Where some cell is not done, it has a donor that is not done, which has another: a route with more than n cells.
+-- How the pass ends. Where every cell is done, each count is the sum over the donors, so it rises along a route: every route ends, and the
+-- counts are those of the definition. Where some cell is not done, it has a donor that is not done, which has another: a route with more
+-- than n cells.
 use mathlib.Core.Path.{_≡_, refl, sym, _∙_, subst}
 use mathlib.Core.Logic.{_⊎_, ⊎-elim}
 use mathlib.Core.Bool.{Bool, true, false, not, cond, _&&_}
@@ -37,7 +38,8 @@ module _ {n : ℕ} {live : ℕ → Bool} {next mark : ℕ → ℕ} (F : Flow n l
     unfolding inflow
     tallied c l =
         P .so-far c l
-        ∙ sum-ext n (λ d. cond (eqb (mark d) c && isDone (word d)) (tally (word d) + 1) 0) (λ d. cond (eqb (mark d) c) (tally (word d) + 1) 0)
+        ∙ sum-ext n (λ d. cond (eqb (mark d) c && isDone (word d)) (tally (word d) + 1) 0)
+        (λ d. cond (eqb (mark d) c) (tally (word d) + 1) 0)
         (λ d h. both (eqb (mark d) c) (isDone (word d)) (tally (word d) + 1) (all-done d h))
       where
         both : (a b : Bool) (v : ℕ) → b ≡ true → cond (a && b) v 0 ≡ cond a v 0
@@ -72,7 +74,8 @@ module _ {n : ℕ} {live : ℕ → Bool} {next mark : ℕ → ℕ} (F : Flow n l
         off false h = refl
 
     -- a cell that waits has a donor that waits
-    waiting-donor : (c : ℕ) → c < n → isDone (word c) ≡ false → (d : ℕ) × (d < n) × (isDone (word d) ≡ false) × (live d ≡ true) × (next d ≡ c)
+    waiting-donor : (c : ℕ) → c < n → isDone (word c) ≡ false → (d : ℕ) × (d < n) × (isDone (word d) ≡ false) × (live d ≡ true)
+        × (next d ≡ c)
     unfolding countBelow
     waiting-donor c l f =
         let a = P .to-come c l f in
@@ -95,7 +98,8 @@ module _ {n : ℕ} {live : ℕ → Bool} {next mark : ℕ → ℕ} (F : Flow n l
         let r = climb all m in
         let d = waiting-donor (r .0) (r .1) (r .2) in
         let e : all (d .0) .0 ≡ suc (all (r .0) .0) =
-        same-length live next (all (d .0) .0) (suc (all (r .0) .0)) (d .0) (all (d .0) .1) (d .3, subst (λ (x : ℕ). EndsIn live next (all (r .0) .0) x) (sym (d .4)) (all (r .0) .1)) in
+        same-length live next (all (d .0) .0) (suc (all (r .0) .0)) (d .0) (all (d .0) .1)
+        (d .3, subst (λ (x : ℕ). EndsIn live next (all (r .0) .0) x) (sym (d .4)) (all (r .0) .1)) in
         let h = r .3 in
         (d .0, d .1, d .2, omega arith)
 

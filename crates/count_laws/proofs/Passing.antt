@@ -1,5 +1,5 @@
--- What the pass keeps. A cell with nothing awaited is closed, and its count and 1 handed to the cell that it flows into, if there is one: the count
--- so far stays the sum over the donors that are done, and what is still to be handed on does not grow.
+-- What the pass keeps. A cell with nothing awaited is closed, and its count and 1 handed to the cell that it flows into, if there is one:
+-- the count so far stays the sum over the donors that are done, and what is still to be handed on does not grow.
 use mathlib.Core.Path.{_≡_, refl, sym, _∙_, ap}
 use mathlib.Core.Logic.{_⊎_, ⊎-elim}
 use mathlib.Core.Bool.{Bool, true, false, not, cond, _&&_}
@@ -12,7 +12,8 @@ use Rattle.count_laws.specs.Passing.{awaited, tally, isDone, undone, Pas
 use Rattle.grid_laws.proofs.Tests.{test, true-false, cond-true}
 use Rattle.grid_laws.proofs.Below.{sum-ext, part-≤-sum}
 use Rattle.count_laws.proofs.Sums.{same?, none-waiting, sum-more, sum-two}
-use Rattle.count_laws.proofs.Words.{ready-awaits, ready-tally, ready-waiting, closed-done, closed-tally, handed-awaits, handed-tally, handed-waiting}
+use Rattle.count_laws.proofs.Words.{ready-awaits, ready-tally, ready-waiting, closed-done, closed-tally, handed-awaits}
+use Rattle.count_laws.proofs.Words.{handed-tally, handed-waiting}
 
 -- one number of a count
 one-of : (b e : Bool) → b ≡ true → e ≡ false → _≡_ {A = ℕ} (cond (b && not e) 1 0) 1
@@ -36,11 +37,13 @@ same-passing n mark mark′ word e P =
       to-come =
           λ c l f.
           P .to-come c l f
-          ∙ sum-ext n (λ d. cond (eqb (mark d) c && not (isDone (word d))) 1 0) (λ d. cond (eqb (mark′ d) c && not (isDone (word d))) 1 0) (λ d h. rw (e d h));
+          ∙ sum-ext n (λ d. cond (eqb (mark d) c && not (isDone (word d))) 1 0) (λ d. cond (eqb (mark′ d) c && not (isDone (word d))) 1 0)
+          (λ d h. rw (e d h));
       so-far =
           λ c l.
           P .so-far c l
-          ∙ sum-ext n (λ d. cond (eqb (mark d) c && isDone (word d)) (tally (word d) + 1) 0) (λ d. cond (eqb (mark′ d) c && isDone (word d)) (tally (word d) + 1) 0) (λ d h. rw (e d h));
+          ∙ sum-ext n (λ d. cond (eqb (mark d) c && isDone (word d)) (tally (word d) + 1) 0)
+          (λ d. cond (eqb (mark′ d) c && isDone (word d)) (tally (word d) + 1) 0) (λ d h. rw (e d h));
       donors-done = λ c d l h q t. P .donors-done c d l h (sym (e d h) ∙ q) t;
       room = P .room;
     }
@@ -66,7 +69,8 @@ module _ (n : ℕ) (mark word : ℕ → ℕ) (P : Passing n mark word) (c : ℕ)
   module _ (far : mark c < n) where
     pub receiver-waits : isDone (word (mark c)) ≡ false
     receiver-waits =
-        ⊎-elim (λ t. true-false (P .donors-done (mark c) c far on refl t) (ready-waiting (word c) ready)) (λ f. f) (test (isDone (word (mark c))))
+        ⊎-elim (λ t. true-false (P .donors-done (mark c) c far on refl t) (ready-waiting (word c) ready)) (λ f. f)
+        (test (isDone (word (mark c))))
 
     pub receiver-awaits : 1 ≤ awaited (word (mark c))
     unfolding countBelow
@@ -123,13 +127,16 @@ module _ (n : ℕ) (mark word : ℕ → ℕ) (P : Passing n mark word) (c : ℕ)
         (same? d c)
 
     so-far-term : (k d : ℕ) → d < n → (d ≡ c → mark c ≡ k → ⊥)
-        → cond (eqb (mark d) k && isDone (word′ d)) (tally (word′ d) + 1) 0 ≡ cond (eqb (mark d) k && isDone (word d)) (tally (word d) + 1) 0
+        → cond (eqb (mark d) k && isDone (word′ d)) (tally (word′ d) + 1) 0
+        ≡ cond (eqb (mark d) k && isDone (word d)) (tally (word d) + 1) 0
     so-far-term k d l f = ⊎-elim at-c past-c (same? d c)
       where
-        at-c : d ≡ c → cond (eqb (mark d) k && isDone (word′ d)) (tally (word′ d) + 1) 0 ≡ cond (eqb (mark d) k && isDone (word d)) (tally (word d) + 1) 0
+        at-c : d ≡ c → cond (eqb (mark d) k && isDone (word′ d)) (tally (word′ d) + 1) 0
+            ≡ cond (eqb (mark d) k && isDone (word d)) (tally (word d) + 1) 0
         at-c e = let q : eqb (mark d) k ≡ false = ne-eqb (mark d) k (λ r. f e (ap mark (sym e) ∙ r)) in rw q
 
-        past-c : (d ≡ c → ⊥) → cond (eqb (mark d) k && isDone (word′ d)) (tally (word′ d) + 1) 0 ≡ cond (eqb (mark d) k && isDone (word d)) (tally (word d) + 1) 0
+        past-c : (d ≡ c → ⊥) → cond (eqb (mark d) k && isDone (word′ d)) (tally (word′ d) + 1) 0
+            ≡ cond (eqb (mark d) k && isDone (word d)) (tally (word d) + 1) 0
         past-c g =
             ⊎-elim
             (λ e.
@@ -146,7 +153,8 @@ module _ (n : ℕ) (mark word : ℕ → ℕ) (P : Passing n mark word) (c : ℕ)
         waits-c : isDone (word c) ≡ false
         waits-c = ready-waiting (word c) ready
 
-        awaits : (k : ℕ) → k < n → isDone (word′ k) ≡ false → awaited (word′ k) ≡ sumBelow n (λ d. cond (eqb (mark d) k && not (isDone (word′ d))) 1 0)
+        awaits : (k : ℕ) → k < n → isDone (word′ k) ≡ false →
+            awaited (word′ k) ≡ sumBelow n (λ d. cond (eqb (mark d) k && not (isDone (word′ d))) 1 0)
         awaits k l f = ⊎-elim here there (same? k (mark c))
           where
             not-c : k ≡ c → ⊥
@@ -160,18 +168,21 @@ module _ (n : ℕ) (mark word : ℕ → ℕ) (P : Passing n mark word) (c : ℕ)
                 let far : mark c < n = at-receiver k l e in
                 let a = P .to-come k l waits-k in
                 let s =
-                sum-more n c 1 (λ d. cond (eqb (mark d) k && not (isDone (word′ d))) 1 0) (λ d. cond (eqb (mark d) k && not (isDone (word d))) 1 0) on
+                sum-more n c 1 (λ d. cond (eqb (mark d) k && not (isDone (word′ d))) 1 0)
+                (λ d. cond (eqb (mark d) k && not (isDone (word d))) 1 0) on
                 (one-of (eqb (mark c) k) (isDone (word c)) (eq-eqb (mark c) k (sym e)) waits-c
                 ∙ ap (λ (x : ℕ). x + 1) (sym (none-done (eqb (mark c) k) (isDone (word′ c)) now-done)))
                 (λ d h g. sym (to-come-term k d h (λ q r. g q))) in
                 let w : awaited (word′ k) + 1 ≡ awaited (word k) =
-                rw e (ap (λ (x : ℕ). awaited x + 1) (handed far) ∙ handed-awaits (word (mark c)) (word c) (receiver-awaits far) (receiver-room far small)) in
+                rw e (ap (λ (x : ℕ). awaited x + 1) (handed far)
+                ∙ handed-awaits (word (mark c)) (word c) (receiver-awaits far) (receiver-room far small)) in
                 omega arith
 
             there : (k ≡ mark c → ⊥) → awaited (word′ k) ≡ sumBelow n (λ d. cond (eqb (mark d) k && not (isDone (word′ d))) 1 0)
             there g =
                 ap awaited (kept k l not-c g) ∙ P .to-come k l waits-k
-                ∙ sum-ext n (λ d. cond (eqb (mark d) k && not (isDone (word d))) 1 0) (λ d. cond (eqb (mark d) k && not (isDone (word′ d))) 1 0)
+                ∙ sum-ext n (λ d. cond (eqb (mark d) k && not (isDone (word d))) 1 0)
+                (λ d. cond (eqb (mark d) k && not (isDone (word′ d))) 1 0)
                 (λ d h. sym (to-come-term k d h (λ q r. g (sym r))))
 
         tallies : (k : ℕ) → k < n → tally (word′ k) ≡ sumBelow n (λ d. cond (eqb (mark d) k && isDone (word′ d)) (tally (word′ d) + 1) 0)
@@ -184,7 +195,8 @@ module _ (n : ℕ) (mark word : ℕ → ℕ) (P : Passing n mark word) (c : ℕ)
                 let t : tally (word′ c) + 1 ≡ word c + 1 =
                 ap (λ (x : ℕ). x + 1) (same-tally c on (λ q. no-ring-of-one (sym q)) ∙ ready-tally (word c) ready) in
                 let s =
-                sum-more n c (word c + 1) (λ d. cond (eqb (mark d) k && isDone (word d)) (tally (word d) + 1) 0) (λ d. cond (eqb (mark d) k && isDone (word′ d)) (tally (word′ d) + 1) 0) on
+                sum-more n c (word c + 1) (λ d. cond (eqb (mark d) k && isDone (word d)) (tally (word d) + 1) 0)
+                (λ d. cond (eqb (mark d) k && isDone (word′ d)) (tally (word′ d) + 1) 0) on
                 (let u = all-of (eqb (mark c) k) (isDone (word′ c)) (tally (word′ c) + 1) (eq-eqb (mark c) k (sym e)) now-done in
                 let v = none-waiting (eqb (mark c) k) (isDone (word c)) (tally (word c) + 1) waits-c in
                 omega arith)
@@ -193,10 +205,12 @@ module _ (n : ℕ) (mark word : ℕ → ℕ) (P : Passing n mark word) (c : ℕ)
                 rw e (ap tally (handed far) ∙ handed-tally (word (mark c)) (word c) (receiver-awaits far) (receiver-room far small)) in
                 omega arith
 
-            there : (k ≡ mark c → ⊥) → tally (word′ k) ≡ sumBelow n (λ d. cond (eqb (mark d) k && isDone (word′ d)) (tally (word′ d) + 1) 0)
+            there : (k ≡ mark c → ⊥) →
+                tally (word′ k) ≡ sumBelow n (λ d. cond (eqb (mark d) k && isDone (word′ d)) (tally (word′ d) + 1) 0)
             there g =
                 same-tally k l g ∙ P .so-far k l
-                ∙ sum-ext n (λ d. cond (eqb (mark d) k && isDone (word d)) (tally (word d) + 1) 0) (λ d. cond (eqb (mark d) k && isDone (word′ d)) (tally (word′ d) + 1) 0)
+                ∙ sum-ext n (λ d. cond (eqb (mark d) k && isDone (word d)) (tally (word d) + 1) 0)
+                (λ d. cond (eqb (mark d) k && isDone (word′ d)) (tally (word′ d) + 1) 0)
                 (λ d h. sym (so-far-term k d h (λ q r. g (sym r))))
 
         after : (k d : ℕ) → k < n → d < n → mark d ≡ k → isDone (word′ k) ≡ true → isDone (word′ d) ≡ true
@@ -241,8 +255,10 @@ module _ (n : ℕ) (mark word : ℕ → ℕ) (P : Passing n mark word) (c : ℕ)
                 let f : mark c ≡ c → ⊥ = no-ring-of-one in
                 let s =
                 sum-more n (mark c) (word c + 1) rest (λ k. cond (isDone (word′ k)) 0 (tally (word′ k) + 1)) far
-                (let a : cond (isDone (word′ (mark c))) 0 (tally (word′ (mark c)) + 1) ≡ tally (word′ (mark c)) + 1 = rw (same-done (mark c) far f ∙ receiver-waits far) in
-                let v : cond (isDone (word (mark c))) 0 (tally (word (mark c)) + 1) ≡ tally (word (mark c)) + 1 = rw (receiver-waits far) in
+                (let a : cond (isDone (word′ (mark c))) 0 (tally (word′ (mark c)) + 1) ≡ tally (word′ (mark c)) + 1 =
+                rw (same-done (mark c) far f ∙ receiver-waits far) in
+                let v : cond (isDone (word (mark c))) 0 (tally (word (mark c)) + 1) ≡ tally (word (mark c)) + 1 =
+                rw (receiver-waits far) in
                 let b = rest-k (mark c) f in
                 let t : tally (word′ (mark c)) ≡ tally (word (mark c)) + word c + 1 =
                 ap tally (handed far) ∙ handed-tally (word (mark c)) (word c) (receiver-awaits far) (receiver-room far small) in
@@ -254,7 +270,8 @@ module _ (n : ℕ) (mark word : ℕ → ℕ) (P : Passing n mark word) (c : ℕ)
 
             ends : n ≤ mark c → sumBelow n (λ k. cond (isDone (word′ k)) 0 (tally (word′ k) + 1)) ≤ n
             ends far =
-                let s = sum-ext n (λ k. cond (isDone (word′ k)) 0 (tally (word′ k) + 1)) rest (λ k l. kept-term k l (λ e. let z : ⊥ = omega arith in absurd z)) in
+                let s = sum-ext n (λ k. cond (isDone (word′ k)) 0 (tally (word′ k) + 1)) rest
+                (λ k l. kept-term k l (λ e. let z : ⊥ = omega arith in absurd z)) in
                 let b = before in
                 let r = P .room in
                 omega arith

@@ -57,13 +57,16 @@ module _ (g : Grid) (codes : List ℕ) (long : length codes ≡ size g) where
   sheet-few c h =
       let a =
       sum-le (size g) (λ d. cond (eqb (receiverMark g codes d) c) 1 0) (λ d. sumBelow 8 (λ q. cond (eqb (neighbour g c q) d) 1 0))
-      (λ d l. ⊎-elim (λ y. beside d l (eqb-true (receiverMark g codes d) c y)) (λ y. let w = cond-false {A = ℕ} 1 0 y in omega arith) (test (eqb (receiverMark g codes d) c))) in
+      (λ d l. ⊎-elim (λ y. beside d l (eqb-true (receiverMark g codes d) c y)) (λ y. let w = cond-false {A = ℕ} 1 0 y in omega arith)
+      (test (eqb (receiverMark g codes d) c))) in
       let b = sum-swap (size g) 8 (λ d q. cond (eqb (neighbour g c q) d) 1 0) in
-      let s = sum-le 8 (λ q. sumBelow (size g) (λ d. cond (eqb (neighbour g c q) d) 1 0)) (λ q. 1) (λ q l. one-is (size g) (neighbour g c q)) in
+      let s = sum-le 8 (λ q. sumBelow (size g) (λ d. cond (eqb (neighbour g c q) d) 1 0)) (λ q. 1)
+      (λ q l. one-is (size g) (neighbour g c q)) in
       let o = sum-ones 8 in
       omega arith
     where
-      beside : (d : ℕ) → d < size g → receiverMark g codes d ≡ c → cond (eqb (receiverMark g codes d) c) 1 0 ≤ sumBelow 8 (λ q. cond (eqb (neighbour g c q) d) 1 0)
+      beside : (d : ℕ) → d < size g → receiverMark g codes d ≡ c →
+          cond (eqb (receiverMark g codes d) c) 1 0 ≤ sumBelow 8 (λ q. cond (eqb (neighbour g c q) d) 1 0)
       beside d l e =
           let r = donor-beside c d h l e in
           let u = part-≤-sum 8 (λ q. cond (eqb (neighbour g c q) d) 1 0) (r .0) (r .1) in

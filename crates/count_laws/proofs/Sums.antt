@@ -35,7 +35,8 @@ sum-swap zero m f = sym (sum-zero m (λ p. 0) (λ k l. refl))
 sum-swap (suc n) m f = ap (λ (x : ℕ). x + sumBelow m (f n)) (sum-swap n m f) ∙ sym (sum-plus m (λ p. sumBelow n (λ d. f d p)) (f n))
 
 -- one term grows
-pub sum-more : (n j v : ℕ) (f g : ℕ → ℕ) → j < n → g j ≡ f j + v → ((k : ℕ) → k < n → (k ≡ j → ⊥) → g k ≡ f k) → sumBelow n g ≡ sumBelow n f + v
+pub sum-more : (n j v : ℕ) (f g : ℕ → ℕ) → j < n → g j ≡ f j + v → ((k : ℕ) → k < n → (k ≡ j → ⊥) → g k ≡ f k) →
+    sumBelow n g ≡ sumBelow n f + v
 unfolding sumBelow
 sum-more zero j v f g h e z = let w : ⊥ = omega arith in absurd w
 sum-more (suc n) j v f g h e z = ⊎-elim here (λ r. there r (sum-more n j v f g (omega arith) e (λ k l. z k (omega arith)))) (same? j n)
@@ -64,7 +65,8 @@ sum-two zero i j f h k r = let w : ⊥ = omega arith in absurd w
 sum-two (suc n) i j f h k r =
     ⊎-elim
     (λ q. let a : f i ≡ f n = ap f q in let b = part-≤-sum n f j (omega arith) in omega arith)
-    (λ p. ⊎-elim (λ q. let a : f j ≡ f n = ap f q in let b = part-≤-sum n f i (omega arith) in omega arith) (λ q. let a = sum-two n i j f (omega arith) (omega arith) r in omega arith) (same? j n))
+    (λ p. ⊎-elim (λ q. let a : f j ≡ f n = ap f q in let b = part-≤-sum n f i (omega arith) in omega arith)
+    (λ q. let a = sum-two n i j f (omega arith) (omega arith) r in omega arith) (same? j n))
     (same? i n)
 
 -- a sum that is not 0 has a term that is not 0

@@ -10,7 +10,8 @@ use Rattle.grid.specs.Routes.{follow}
 unfoldable pub routeCount : (ℕ → Bool) → (ℕ → ℕ) → ℕ → ℕ → ℕ
 routeCount live next n c = countBelow n (λ d. not (eqb d c) && has c (follow live next n d))
 
--- the mark of a cell, for cells that are live and flow on to `next`: the next cell of the route, n where the route ends, n + 1 where there is no route
+-- the mark of a cell, for cells that are live and flow on to `next`: the next cell of the route, n where the route ends, n + 1 where there
+-- is no route
 unfoldable pub markOf : (ℕ → Bool) → (ℕ → ℕ) → ℕ → ℕ → ℕ
 markOf live next n c = cond (live c) (cond (live (next c)) (next c) n) (n + 1)
 

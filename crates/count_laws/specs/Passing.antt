@@ -1,5 +1,5 @@
--- The pass that hands counts down. Each cell has a word: the number of cells that flow into it and are still to come, times 16,777,216, and its
--- count so far. A cell that has handed its count on is done: its word has 255 above.
+-- The pass that hands counts down. Each cell has a word: the number of cells that flow into it and are still to come, times 16,777,216,
+-- and its count so far. A cell that has handed its count on is done: its word has 255 above.
 use mathlib.Core.Path.{_≡_}
 use mathlib.Core.Bool.{Bool, true, false, not, cond, _&&_}
 use Prim.Native.Nat.{ℕ, _+_, _*_, _/_, _%_, _≤_, _<_}

@@ -35,7 +35,8 @@ copied-more i v f d₀ d C h e =
           (getD-set-same d i v 0 (let q = C .same-length in omega arith) ∙ e);
     }
 
-pub copied-list : (s d₀ d : List ℕ) (i : ℕ) → length s ≤ length d₀ → length s ≤ i → CopiedTo i (λ k. getD s k 0) d₀ d → take (length s) d ≡ s
+pub copied-list : (s d₀ d : List ℕ) (i : ℕ) → length s ≤ length d₀ → length s ≤ i → CopiedTo i (λ k. getD s k 0) d₀ d →
+    take (length s) d ≡ s
 copied-list s d₀ d i h l C =
     let q : length s ≤ length d = let a = C .same-length in omega arith in
     let e : length (take (length s) d) ≡ length s = length-take-le (length s) d q in
@@ -53,9 +54,14 @@ copied-count n t i d₀ d C h = copied-more i (getD t (n + i) 0 % 16777216) (λ 
 -- ---- what the counts are
 pub no-counts : (n : ℕ) (t₀ t₁ counts₀ : List ℕ) (r : ℕ) → Counted n t₀ t₁ r → r < n → CountsOf n t₀ t₁ counts₀ counts₀ r
 no-counts n t₀ t₁ counts₀ r C h =
-    record { first = C .first; same-marks = C .same-marks; result = sym (cond-false _ _ (ne-eqb r n (λ e. let z : ⊥ = omega arith in absurd z))) }
+    record {
+      first = C .first;
+      same-marks = C .same-marks;
+      result = sym (cond-false _ _ (ne-eqb r n (λ e. let z : ⊥ = omega arith in absurd z)));
+    }
 
-pub all-counts : (n : ℕ) (t₀ t₁ counts₀ counts₁ : List ℕ) (r : ℕ) → Counted n t₀ t₁ r → n ≤ r → counts₁ ≡ table n (λ c. tally (wordAt n t₁ c)) → CountsOf n t₀ t₁ counts₀ counts₁ r
+pub all-counts : (n : ℕ) (t₀ t₁ counts₀ counts₁ : List ℕ) (r : ℕ) → Counted n t₀ t₁ r → n ≤ r →
+    counts₁ ≡ table n (λ c. tally (wordAt n t₁ c)) → CountsOf n t₀ t₁ counts₀ counts₁ r
 unfolding firstUnending
 all-counts n t₀ t₁ counts₀ counts₁ r C h e =
     let f = C .first in
@@ -64,5 +70,8 @@ all-counts n t₀ t₁ counts₀ counts₁ r C h e =
     record {
       first = f;
       same-marks = C .same-marks;
-      result = e ∙ table-ext n (λ c. tally (wordAt n t₁ c)) (routeCount (liveAt n t₀) (nextAt n t₀) n) (C .counts q) ∙ sym (cond-true _ _ (eq-eqb r n q));
+      result =
+          e
+          ∙ table-ext n (λ c. tally (wordAt n t₁ c)) (routeCount (liveAt n t₀) (nextAt n t₀) n) (C .counts q)
+          ∙ sym (cond-true _ _ (eq-eqb r n q));
     }

@@ -28,11 +28,13 @@ module _ (g : Grid) (codes : List ℕ) (long : length codes ≡ size g) (t : Lis
   tail-few c l =
       subst (λ (x : ℕ). x ≤ 8)
       (count-ext (size g) (λ d. eqb (receiverMark g codes d) c) (λ d. eqb (markAt t d) c)
-      (λ d h. ap (λ (x : ℕ). eqb x c) (sym (sym (getD-take (size g) t d 0 h) ∙ ap (λ (x : List ℕ). getD x d 0) marks ∙ at-receivers g codes long d 0 h))))
+      (λ d h. ap (λ (x : ℕ). eqb x c)
+      (sym (sym (getD-take (size g) t d 0 h) ∙ ap (λ (x : List ℕ). getD x d 0) marks ∙ at-receivers g codes long d 0 h))))
       (sheet-few g codes long c l)
 
   pub tail-first : firstUnending (liveAt (size g) t) (nextAt (size g) t) (size g) ≡ firstEndless g codes
-  tail-first = ap (λ (x : List ℕ). firstUnending (liveIn (size g) x) (nextIn (size g) x) (size g)) marks ∙ sym (first-endless-is g codes long)
+  tail-first =
+      ap (λ (x : List ℕ). firstUnending (liveIn (size g) x) (nextIn (size g) x) (size g)) marks ∙ sym (first-endless-is g codes long)
 
   pub tail-counts : table (size g) (routeCount (liveAt (size g) t) (nextAt (size g) t) (size g)) ≡ counts g codes
   unfolding counts countAt routeCount
@@ -40,11 +42,13 @@ module _ (g : Grid) (codes : List ℕ) (long : length codes ≡ size g) (t : Lis
       ap (λ (x : List ℕ). table (size g) (routeCount (liveIn (size g) x) (nextIn (size g) x) (size g))) marks
       ∙ table-ext (size g) (routeCount (liveOf g codes) (nextOf g codes) (size g)) (countAt g codes)
       (λ c l.
-      count-ext (size g) (λ d. not (eqb d c) && has c (follow (liveOf g codes) (nextOf g codes) (size g) d)) (λ d. not (eqb d c) && has c (follow (hasCode codes) (receiver g codes) (size g) d))
+      count-ext (size g) (λ d. not (eqb d c) && has c (follow (liveOf g codes) (nextOf g codes) (size g) d))
+      (λ d. not (eqb d c) && has c (follow (hasCode codes) (receiver g codes) (size g) d))
       (λ d h. ap (λ (x : List ℕ). not (eqb d c) && has c x) (same-route g codes long (size g) d)))
 
 -- where the receivers stand in a buffer
-pub receivers-first : (g : Grid) (codes rest : List ℕ) → length codes ≡ size g → take (size g) (receivers g codes ++ rest) ≡ receivers g codes
+pub receivers-first : (g : Grid) (codes rest : List ℕ) → length codes ≡ size g →
+    take (size g) (receivers g codes ++ rest) ≡ receivers g codes
 receivers-first g codes rest long = take-at (receivers g codes) rest (size g) (length-receivers g codes long)
 
 pub tail-after : (half : ℕ) (w x : List ℕ) → half ≤ length w → drop half (take half w ++ x) ≡ x

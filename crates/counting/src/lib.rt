@@ -1,6 +1,6 @@
 // Counts from the marks at the front of a lent tail (`route_laws`, `specs/Receivers`), written to the result only when question 12 is
-// answered: "A no changes no result buffer". The counts call and the one call share this; the copy of the codes, which the counts call makes
-// first, stands here too. `proofs/Sheet` carries marks, counts and the first endless cell over to a sheet of codes.
+// answered: "A no changes no result buffer". The counts call and the one call share this; the copy of the codes, which the counts call
+// makes first, stands here too. `proofs/Sheet` carries marks, counts and the first endless cell over to a sheet of codes.
 ghost use mathlib.Core.Path.{_≡_};
 ghost use Prim.Native.Nat.{ℕ, _+_, _<_, _≤_};
 ghost use lib.ListN.{length, getD, take};

@@ -21,7 +21,8 @@ use Rattle.checks.specs.Sizes.{Fits}
 abbrev lent : ℕ → List ℕ → List ℕ
 lent half w = take (length w - half) (drop half w)
 
-module _ (g : Grid) (codes w₀ w₁ : List ℕ) (fits : Fits g) (long : length codes ≡ size g) (room : 4 * size g ≤ length w₀) (same : length w₁ ≡ length w₀)
+module _ (g : Grid) (codes w₀ w₁ : List ℕ) (fits : Fits g) (long : length codes ≡ size g) (room : 4 * size g ≤ length w₀)
+    (same : length w₁ ≡ length w₀)
     (copied : take (length codes) w₁ ≡ codes) where
   copy-is : take (size g) w₁ ≡ codes
   copy-is = ap (λ (n : ℕ). take n w₁) (sym long) ∙ copied
@@ -38,7 +39,8 @@ module _ (g : Grid) (codes w₀ w₁ : List ℕ) (fits : Fits g) (long : length 
   pub second-half : length w₀ / 2 + size g ≤ length w₁
   second-half = omega arith
 
-  module _ (w₂ : List ℕ) (written : w₂ ≡ take (length w₀ / 2) w₁ ++ (receivers g (take (size g) w₁) ++ drop (length w₀ / 2 + size g) w₁)) (same′ : length w₂ ≡ length w₁) where
+  module _ (w₂ : List ℕ) (written : w₂ ≡ take (length w₀ / 2) w₁ ++ (receivers g (take (size g) w₁) ++ drop (length w₀ / 2 + size g) w₁))
+      (same′ : length w₂ ≡ length w₁) where
     tail-whole : lent (length w₀ / 2) w₂ ≡ drop (length w₀ / 2) w₂
     tail-whole = take-all (length w₂ - length w₀ / 2) (drop (length w₀ / 2) w₂) (rw (length-drop (length w₀ / 2) w₂) (omega arith))
 
@@ -47,7 +49,8 @@ module _ (g : Grid) (codes w₀ w₁ : List ℕ) (fits : Fits g) (long : length 
 
     pub tail-receivers : take (size g) (lent (length w₀ / 2) w₂) ≡ receivers g codes
     tail-receivers =
-        ap (take (size g)) (tail-whole ∙ ap (drop (length w₀ / 2)) written ∙ tail-after (length w₀ / 2) w₁ (receivers g (take (size g) w₁) ++ drop (length w₀ / 2 + size g) w₁) (omega arith))
+        ap (take (size g)) (tail-whole ∙ ap (drop (length w₀ / 2)) written
+        ∙ tail-after (length w₀ / 2) w₁ (receivers g (take (size g) w₁) ++ drop (length w₀ / 2 + size g) w₁) (omega arith))
         ∙ ap (λ (l : List ℕ). take (size g) (receivers g l ++ drop (length w₀ / 2 + size g) w₁)) copy-is
         ∙ receivers-first g codes (drop (length w₀ / 2 + size g) w₁) long
 

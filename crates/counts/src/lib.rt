@@ -1,6 +1,6 @@
-// The call `counts` of document 01: from a sheet of codes, of each cell "the number of other cells whose routes contain it". Questions 5 to
-// 9, then 11 and 12. "The counts call first copies the codes into the first half and counts from that copy": the receivers of the copy go
-// into the second half, where one pass down the routes counts (crates `receivers`, `accumulation`). The result is written when the last
+// The call `counts` of document 01: from a sheet of codes, of each cell "the number of other cells whose routes contain it". Questions 5
+// to 9, then 11 and 12. "The counts call first copies the codes into the first half and counts from that copy": the receivers of the copy
+// go into the second half, where one pass down the routes counts (crates `receivers`, `accumulation`). The result is written when the last
 // question is answered.
 use grid::Answer;
 use grid::Grid;
@@ -34,7 +34,8 @@ fn counts_into(g: Grid, codes: &[u8], counts: &mut [u32], work: &mut [u32]) -> u
 
 // Codes to counts.
 pub fn counts(g: Grid, codes: &[u8], counts: &mut [u32], work: &mut [u32]) -> Answer
-    ensures { λ r. ⌜ CountsPromise g (now (codes .entry)) (now (counts .entry)) (now (counts .exit)) (now (work .entry)) (now (work .exit)) r ⌝ }
+    ensures { λ r. ⌜ CountsPromise g (now (codes .entry)) (now (counts .entry)) (now (counts .exit)) (now (work .entry)) (now (work .exit))
+        r ⌝ }
 {
     let given = codes.len();
     let wanted = counts.len();

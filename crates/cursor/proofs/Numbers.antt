@@ -9,7 +9,8 @@ use Rattle.cursor.specs.declared.Digit.{Digit}
 use Rattle.cursor.specs.Reading.{DigitRead, NumberRead}
 
 -- the value of the digit read at a place that is k past another
-digit-past : (text : List ℕ) (at k : ℕ) {from : ℕ} {d : Digit} → from ≡ at + k → DigitRead text from d → d .value ≡ hexValue (getD text (at + k) 0)
+digit-past : (text : List ℕ) (at k : ℕ) {from : ℕ} {d : Digit} → from ≡ at + k → DigitRead text from d →
+    d .value ≡ hexValue (getD text (at + k) 0)
 digit-past text at k e r = r .value ∙ ap (λ (i : ℕ). hexValue (getD text i 0)) e
 
 module _ (text : List ℕ) (at : ℕ) (a b c d : Digit) where

@@ -1,5 +1,5 @@
-// The program: standard input to standard output, over one proved call from text to text. It reads one byte more than the longest text that is
-// accepted, so that a longer one is noticed.
+// The program: standard input to standard output, over one proved call from text to text. It reads one byte more than the longest text
+// that is accepted, so that a longer one is noticed.
 ghost use Prim.Native.Nat.{_≤_};
 ghost use lib.ListN.{length};
 use libc::STDOUT_FILENO;

@@ -1,5 +1,5 @@
--- The steps of the program, one after the other: what was read is what the definitions say, the one call accepts it, and what is printed is
--- the definition's text.
+-- The steps of the program, one after the other: what was read is what the definitions say, the one call accepts it, and what is printed
+-- is the definition's text.
 use mathlib.Core.Path.{_≡_, refl, sym, ap, _∙_}
 use mathlib.Core.Bool.{Bool, true, false, cond, _&&_}
 use mathlib.Core.List.{List, [], _∷_, _++_}

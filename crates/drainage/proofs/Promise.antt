@@ -71,11 +71,13 @@ module _ (g : Grid) (e f₀ : List ℤ) (k₀ a₀ l₀ w₀ : List ℕ) (r : An
       }
 
   -- a yes: the four results, and demand 3 about them
-  module _ (z : r .number ≡ 0) (f₁ : List ℤ) (k₁ a₁ l₁ w₁ : List ℕ) (results : Results g e f₁ k₁ a₁ l₁) (kept : length w₁ ≡ length w₀) where
+  module _ (z : r .number ≡ 0) (f₁ : List ℤ) (k₁ a₁ l₁ w₁ : List ℕ) (results : Results g e f₁ k₁ a₁ l₁)
+      (kept : length w₁ ≡ length w₀) where
     demanded : Guarantee g e f₁ k₁ a₁ l₁
     demanded =
         let h = measured g (length e) (length f₀) (length k₀) (length a₀) (length l₀) (length w₀) r answered z in
-        rw (results .filled) (rw (results .codes) (rw (results .counts) (rw (results .labels) (guaranteed g e (h .elevations-have) (results .range)))))
+        rw (results .filled)
+        (rw (results .codes) (rw (results .counts) (rw (results .labels) (guaranteed g e (h .elevations-have) (results .range)))))
 
     pub promise-of-yes : DrainPromise g e f₀ f₁ k₀ k₁ a₀ a₁ l₀ l₁ w₀ w₁ r
     promise-of-yes =

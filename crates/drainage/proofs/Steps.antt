@@ -1,4 +1,5 @@
--- From step to step of the one call: the filled sheet has every level, so its directions are written; their codes are all of the eight or 0, and their routes end.
+-- From step to step of the one call: the filled sheet has every level, so its directions are written; their codes are all of the eight or
+-- 0, and their routes end.
 use mathlib.Core.Path.{_≡_, refl, sym, _∙_, ap, subst}
 use mathlib.Core.Bool.{cond}
 use mathlib.Core.List.{List}
@@ -23,12 +24,14 @@ use Rattle.drainage.specs.Results.{Measured, Routable, Results}
 half-room : (n : ℕ) (t : List ℕ) → 4 * n ≤ length t → n + n ≤ length (take (length t - length t / 2) (drop (length t / 2) t))
 half-room n t h = simp (length-take, length-drop) (omega arith)
 
-module _ (g : Grid) (e f₁ : List ℤ) (k₀ k₁ : List ℕ) (f k a l w r : ℕ) (M : Measured g (length e) f k a l w) (range : InRange e) (fills : f₁ ≡ filled g e)
+module _ (g : Grid) (e f₁ : List ℤ) (k₀ k₁ : List ℕ) (f k a l w r : ℕ) (M : Measured g (length e) f k a l w) (range : InRange e)
+    (fills : f₁ ≡ filled g e)
     (first : r ≡ firstUnlevelled g f₁) (flows : k₁ ≡ cond (eqb r (size g)) (directions g f₁) k₀) where
   pub codes-right : k₁ ≡ directions g (filled g e)
   codes-right =
       flows
-      ∙ cond-true (directions g f₁) k₀ (eq-eqb r (size g) (first ∙ ap (firstUnlevelled g) fills ∙ all-levelled g e (M .elevations-have) range))
+      ∙ cond-true (directions g f₁) k₀
+      (eq-eqb r (size g) (first ∙ ap (firstUnlevelled g) fills ∙ all-levelled g e (M .elevations-have) range))
       ∙ ap (directions g) fills
 
   pub routable : (t : List ℕ) → length t ≡ w → Routable g k₁ a l (length (take (length t - length t / 2) (drop (length t / 2) t)))

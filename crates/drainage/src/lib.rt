@@ -1,6 +1,6 @@
-// The one call of document 01: "One call works filled sheet, codes, counts and labels from elevations". The questions 5 to 9 first, then the four
-// steps in sequence over the one lent work buffer, each the proved piece of its own crate. Its promise carries demand 3 about the four lists that it
-// leaves: they are those of the definitions, and for these demand 3 is a law (`guarantee_laws`, `proofs/OneCall`).
+// The one call of document 01: "One call works filled sheet, codes, counts and labels from elevations". The questions 5 to 9 first, then
+// the four steps in sequence over the one lent work buffer, each the proved piece of its own crate. Its promise carries demand 3 about the
+// four lists that it leaves: they are those of the definitions, and for these demand 3 is a law (`guarantee_laws`, `proofs/OneCall`).
 use grid::Answer;
 use grid::Grid;
 ghost use mathlib.Core.Path.{_≡_};
@@ -9,7 +9,8 @@ ghost use Rattle.grid.specs.Routes.{counts as counts', labels as labels'};
 ghost use Rattle.grid.specs.Promises.{DrainPromise};
 ghost use Rattle.drainage.specs.Results.{Measured, Routable, Results};
 
-// Counts and labels of the codes, from one list of receivers at the front of the lent tail: the counts leave it as it is, the labels take its place.
+// Counts and labels of the codes, from one list of receivers at the front of the lent tail: the counts leave it as it is, the labels take
+// its place.
 fn route_results(g: Grid, codes: &[u8], counts: &mut [u32], labels: &mut [u32], tail: &mut [u32])
     requires { ⌜ Routable g (now codes) (length (now counts)) (length (now labels)) (length (now tail)) ⌝ }
     ensures { λ _. ⌜ now (counts .exit) ≡ counts' g (now (codes .entry)) ⌝ }
@@ -31,8 +32,10 @@ fn work_out(
     labels: &mut [u32],
     work: &mut [u32],
 )
-    requires { ⌜ Measured g (length (now elevations)) (length (now filled)) (length (now codes)) (length (now counts)) (length (now labels)) (length (now work)) ⌝ }
-    ensures { λ _. ⌜ Results g (now (elevations .entry)) (now (filled .exit)) (now (codes .exit)) (now (counts .exit)) (now (labels .exit)) ⌝ }
+    requires { ⌜ Measured g (length (now elevations)) (length (now filled)) (length (now codes)) (length (now counts))
+        (length (now labels)) (length (now work)) ⌝ }
+    ensures { λ _. ⌜ Results g (now (elevations .entry)) (now (filled .exit)) (now (codes .exit)) (now (counts .exit))
+        (now (labels .exit)) ⌝ }
 {
     fill::fill_into(g, elevations, filled, work);
     flow::directions_into(g, filled, codes, work);
@@ -50,7 +53,9 @@ pub fn drain(
     labels: &mut [u32],
     work: &mut [u32],
 ) -> Answer
-    ensures { λ r. ⌜ DrainPromise g (now (elevations .entry)) (now (filled .entry)) (now (filled .exit)) (now (codes .entry)) (now (codes .exit)) (now (counts .entry)) (now (counts .exit)) (now (labels .entry)) (now (labels .exit)) (now (work .entry)) (now (work .exit)) r ⌝ }
+    ensures { λ r. ⌜ DrainPromise g (now (elevations .entry)) (now (filled .entry)) (now (filled .exit)) (now (codes .entry))
+        (now (codes .exit)) (now (counts .entry)) (now (counts .exit)) (now (labels .entry)) (now (labels .exit)) (now (work .entry))
+        (now (work .exit)) r ⌝ }
 {
     let answer = checks::check(
         g,

@@ -1,5 +1,5 @@
--- What the flood leaves is the filled sheet: the data cells, neighbours and outlets that it sees by keys are those of the elevations, so its state at the end is
--- the certificate of fill_laws.
+-- What the flood leaves is the filled sheet: the data cells, neighbours and outlets that it sees by keys are those of the elevations, so
+-- its state at the end is the certificate of fill_laws.
 use mathlib.Core.Path.{_≡_, refl, sym, _∙_, ap, subst}
 use mathlib.Core.Bool.{Bool, true, false, not}
 use mathlib.Core.Logic.{_⊎_, inl, inr, ⊎-elim}
@@ -55,13 +55,19 @@ module _ (g : Grid) (e : List ℤ) (f : List ℕ) (cells : length e ≡ size g) 
       go : (p : ℕ) × (p < 8) × (leavesAt g e c p ≡ true) → OutletOf g f c
       go (p, h, l) = (
         cell-to c (true-T (outlet-data g e c (T-true (isOutlet g e c) o))),
-        (p, h, λ t. true-false (T-true (isData e (neighbour g c p)) (cell-from (neighbour g c p) t)) (not-is-true (isData e (neighbour g c p)) (sym (leaves-no-data g e cells c p) ∙ l))),
+        (
+          p,
+          h,
+          λ t. true-false (T-true (isData e (neighbour g c p)) (cell-from (neighbour g c p) t))
+              (not-is-true (isData e (neighbour g c p)) (sym (leaves-no-data g e cells c p) ∙ l)),
+        ),
       )
 
   out-from : (c : ℕ) → OutletOf g f c → Outlet g e c
   out-from c (t, (p, h, x)) =
       true-T (leaves-outlet g e c p (T-true (isData e c) (cell-from c t)) h
-      (leaves-no-data g e cells c p ∙ not-of-false (not-true-false (isData e (neighbour g c p)) (λ d. x (cell-to (neighbour g c p) (true-T d))))))
+      (leaves-no-data g e cells c p
+      ∙ not-of-false (not-true-false (isData e (neighbour g c p)) (λ d. x (cell-to (neighbour g c p) (true-T d))))))
 
   level-at : (c : ℕ) → CellOf (size g) f c → levelOf (getD f c 0) ≡ at e c
   level-at c t = ap levelOf (keys c (t .0)) ∙ level-key (at e c) (range c .0)
@@ -108,9 +114,12 @@ module _ (g : Grid) (e : List ℤ) (f : List ℕ) (cells : length e ≡ size g) 
       surface : Certificate (size g) (DataCell e) (Outlet g e) (DataNeighbours g e) (at e) (at G) (λ i. getD b i 0) len
       surface =
           record {
-            at-outlets = λ c o. let k = out-to c o in written c (k .0 .0) ∙ (ap levelOf (B .flood .outs c k (out-reached c k)) ∙ level-at c (k .0));
+            at-outlets =
+                λ c o. let k = out-to c o in written c (k .0 .0) ∙ (ap levelOf (B .flood .outs c k (out-reached c k)) ∙ level-at c (k .0));
             above = λ c t. let k = cell-to c t in
-                ≤ℤ-trans (≤ℤ-of-eq (sym (level-at c k))) (≤ℤ-trans (level-mono (getD f c 0) (getD b (size g + c) 0) (B .flood .under c (k .0) (reached c t) .0)) (≤ℤ-of-eq (sym (data-level c t))));
+                ≤ℤ-trans (≤ℤ-of-eq (sym (level-at c k)))
+                (≤ℤ-trans (level-mono (getD f c 0) (getD b (size g + c) 0) (B .flood .under c (k .0) (reached c t) .0))
+                (≤ℤ-of-eq (sym (data-level c t))));
             no-higher = no-higher;
             few = (let y = B .flood .count in omega (arith, at-most (size g) (λ c. getD b (size g + c) 0)));
             reached = λ i h. parents i h (B .flood .parents i h);
@@ -123,20 +132,29 @@ module _ (g : Grid) (e : List ℤ) (f : List ℕ) (cells : length e ≡ size g) 
               k : NextTo g f c n
               k = next-to c n x
 
-              go : (getD b (size g + c) 0 ≤ getD f c 0) ⊎ (getD b (size g + c) 0 ≤ getD b (size g + n) 0) → at G c ≤ℤ higher (at e c) (at G n)
-              go (inl q) = ≤ℤ-trans (≤ℤ-trans (≤ℤ-of-eq (data-level c (x .0))) (≤ℤ-trans (level-mono _ _ q) (≤ℤ-of-eq (level-at c (k .0))))) (≤-higher-left (at e c) (at G n))
-              go (inr q) = ≤ℤ-trans (≤ℤ-trans (≤ℤ-of-eq (data-level c (x .0))) (≤ℤ-trans (level-mono _ _ q) (≤ℤ-of-eq (sym (data-level n (x .1)))))) (≤-higher-right (at e c) (at G n))
+              go : (getD b (size g + c) 0 ≤ getD f c 0) ⊎ (getD b (size g + c) 0 ≤ getD b (size g + n) 0) →
+                  at G c ≤ℤ higher (at e c) (at G n)
+              go (inl q) =
+                  ≤ℤ-trans (≤ℤ-trans (≤ℤ-of-eq (data-level c (x .0))) (≤ℤ-trans (level-mono _ _ q) (≤ℤ-of-eq (level-at c (k .0)))))
+                  (≤-higher-left (at e c) (at G n))
+              go (inr q) =
+                  ≤ℤ-trans (≤ℤ-trans (≤ℤ-of-eq (data-level c (x .0))) (≤ℤ-trans (level-mono _ _ q) (≤ℤ-of-eq (sym (data-level n (x .1))))))
+                  (≤-higher-right (at e c) (at G n))
 
           parents : (i : ℕ) → i < len
-              → OutletOf g f (getD b i 0) ⊎ ((j : ℕ) × (j < i) × NextTo g f (getD b i 0) (getD b j 0) × (getD b (size g + getD b j 0) 0 ≤ getD b (size g + getD b i 0) 0))
-              → Outlet g e (getD b i 0) ⊎ ((j : ℕ) × (j < i) × DataNeighbours g e (getD b i 0) (getD b j 0) × (at G (getD b j 0) ≤ℤ at G (getD b i 0)))
+              → OutletOf g f (getD b i 0)
+              ⊎ ((j : ℕ) × (j < i) × NextTo g f (getD b i 0) (getD b j 0)
+              × (getD b (size g + getD b j 0) 0 ≤ getD b (size g + getD b i 0) 0))
+              → Outlet g e (getD b i 0)
+              ⊎ ((j : ℕ) × (j < i) × DataNeighbours g e (getD b i 0) (getD b j 0) × (at G (getD b j 0) ≤ℤ at G (getD b i 0)))
           parents i h (inl o) = inl (out-from (getD b i 0) o)
           parents i h (inr (j, l, x, m)) =
               inr (
                 j,
                 l,
                 next-from (getD b i 0) (getD b j 0) x,
-                ≤ℤ-trans (≤ℤ-of-eq (written (getD b j 0) (x .1 .0))) (≤ℤ-trans (level-mono _ _ m) (≤ℤ-of-eq (sym (written (getD b i 0) (x .0 .0))))),
+                ≤ℤ-trans (≤ℤ-of-eq (written (getD b j 0) (x .1 .0)))
+                    (≤ℤ-trans (level-mono _ _ m) (≤ℤ-of-eq (sym (written (getD b i 0) (x .0 .0))))),
               )
 
       pub flooded-filled : length G ≡ size g → G ≡ filled g e

@@ -15,7 +15,8 @@ use Rattle.cells.specs.Keys.{keyOf, levelOf}
 use Rattle.cells.proofs.Keys.{least, void-top}
 
 -- what a store leaves at each index
-at-set : {A : Type 0} (d : A) (l : List A) (i : ℕ) (v : A) → i < length l → (x : ℕ) → ((x ≡ i) × (getD (set l i v) x d ≡ v)) ⊎ ((x ≡ i → ⊥) × (getD (set l i v) x d ≡ getD l x d))
+at-set : {A : Type 0} (d : A) (l : List A) (i : ℕ) (v : A) → i < length l → (x : ℕ) →
+    ((x ≡ i) × (getD (set l i v) x d ≡ v)) ⊎ ((x ≡ i → ⊥) × (getD (set l i v) x d ≡ getD l x d))
 at-set d l i v h x = go (ℕ-discrete x i)
   where
     go : Dec (x ≡ i) → ((x ≡ i) × (getD (set l i v) x d ≡ v)) ⊎ ((x ≡ i → ⊥) × (getD (set l i v) x d ≡ getD l x d))
@@ -26,7 +27,8 @@ at-set d l i v h x = go (ℕ-discrete x i)
 abbrev pub LoadTo : List ℤ → List ℕ → ℕ → Type 0
 LoadTo e w i = (x : ℕ) → x < i → (getD w x 0 ≡ keyOf (at e x)) × (void ≤ℤ at e x) × (at e x ≤ℤ top)
 
-pub load-more : (e : List ℤ) (w : List ℕ) (i v : ℕ) → i < length w → v ≡ keyOf (at e i) → (void ≤ℤ at e i) × (at e i ≤ℤ top) → LoadTo e w i → LoadTo e (set w i v) (i + 1)
+pub load-more : (e : List ℤ) (w : List ℕ) (i v : ℕ) → i < length w → v ≡ keyOf (at e i) → (void ≤ℤ at e i) × (at e i ≤ℤ top) →
+    LoadTo e w i → LoadTo e (set w i v) (i + 1)
 load-more e w i v hw k r L x h =
     ⊎-elim
     (λ q. rw (q .1) (rw (q .0) (k, r .0, r .1)))
@@ -41,5 +43,7 @@ load-end e w L x = go (decLt x (length e))
     go (no f) = let q : length e ≤ x = omega arith in rw (List·getD-eq-default e void q) (least, void-top)
 
 -- the first i levels are unloaded
-pub unload-more : (f : ℕ → ℤ) (out : List ℤ) (i : ℕ) (v : ℤ) → i < length out → v ≡ f i → ((c : ℕ) → c < i → at out c ≡ f c) → (c : ℕ) → c < i + 1 → at (set out i v) c ≡ f c
-unload-more f out i v h e L c l = ⊎-elim (λ q. q .1 ∙ rw (q .0) e) (λ q. q .1 ∙ L c (let n = q .0 in omega arith)) (at-set void out i v h c)
+pub unload-more : (f : ℕ → ℤ) (out : List ℤ) (i : ℕ) (v : ℤ) → i < length out → v ≡ f i → ((c : ℕ) → c < i → at out c ≡ f c) → (c : ℕ) →
+    c < i + 1 → at (set out i v) c ≡ f c
+unload-more f out i v h e L c l =
+    ⊎-elim (λ q. q .1 ∙ rw (q .0) e) (λ q. q .1 ∙ L c (let n = q .0 in omega arith)) (at-set void out i v h c)

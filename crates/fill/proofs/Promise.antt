@@ -1,4 +1,5 @@
--- From the answer to questions 5 to 9 to the promise of the call: e and f₀ are the elevations and the result list at entry, w₀ the work buffer.
+-- From the answer to questions 5 to 9 to the promise of the call: e and f₀ are the elevations and the result list at entry, w₀ the work
+-- buffer.
 use mathlib.Core.Path.{_≡_, refl, sym, _∙_, ap}
 use mathlib.Core.List.{List, [], _∷_}
 use Prim.Native.Nat.{ℕ, _*_, _^_, _≤_, _<_}
@@ -16,7 +17,8 @@ use Rattle.grid_laws.proofs.Tests.{cond-true, cond-false}
 use Rattle.checks.proofs.Asked.{Passed, passed, have-first, one-input}
 
 module _ (g : Grid) (e f₀ : List ℤ) (w₀ : List ℕ) (r : Answer)
-    (asked : r ≡ askSheets g (length e ∷ length e ∷ []) (length f₀ ∷ length f₀ ∷ length f₀ ∷ length f₀ ∷ []) (askWork g (length w₀) accepted)) where
+    (asked : r ≡ askSheets g (length e ∷ length e ∷ []) (length f₀ ∷ length f₀ ∷ length f₀ ∷ length f₀ ∷ [])
+    (askWork g (length w₀) accepted)) where
   answer : r ≡ fillCheck g (length e) (length f₀) (length w₀)
   unfolding fillCheck
   answer = asked ∙ one-input g (length e) (length f₀) (askWork g (length w₀) accepted)
@@ -29,14 +31,22 @@ module _ (g : Grid) (e f₀ : List ℤ) (w₀ : List ℕ) (r : Answer)
         work = record { same-length = refl; untouched = λ l h. refl };
       }
 
-  pub accepted-sizes : r .number ≡ 0 → (size g < 2 ^ 24) × (g .cols < 2 ^ 24) × (length e ≡ size g) × (length f₀ ≡ size g) × (4 * size g ≤ length w₀)
+  pub accepted-sizes : r .number ≡ 0 → (size g < 2 ^ 24) × (g .cols < 2 ^ 24) × (length e ≡ size g) × (length f₀ ≡ size g)
+      × (4 * size g ≤ length w₀)
   accepted-sizes z =
-      let p = passed g (length e ∷ length e ∷ []) (length f₀ ∷ length f₀ ∷ length f₀ ∷ length f₀ ∷ []) (length w₀) (ap (λ (a : Answer). a .number) (sym asked) ∙ z) in
+      let p = passed g (length e ∷ length e ∷ []) (length f₀ ∷ length f₀ ∷ length f₀ ∷ length f₀ ∷ []) (length w₀)
+      (ap (λ (a : Answer). a .number) (sym asked) ∙ z) in
       let c = p .fits .cells in
-      let k = p .fits .cols-high in
-      (omega arith, omega arith, have-first (size g) (length e) (length e ∷ []) (p .inputs-have), have-first (size g) (length f₀) _ (p .results-have), p .room)
+      let k = p .fits .cols-high in (
+        omega arith,
+        omega arith,
+        have-first (size g) (length e) (length e ∷ []) (p .inputs-have),
+        have-first (size g) (length f₀) _ (p .results-have),
+        p .room,
+      )
 
-  pub accepted-promise : r .number ≡ 0 → (f₁ : List ℤ) (w₁ : List ℕ) → f₁ ≡ filled g e → length w₁ ≡ length w₀ → FillPromise g e f₀ f₁ w₀ w₁ r
+  pub accepted-promise : r .number ≡ 0 → (f₁ : List ℤ) (w₁ : List ℕ) → f₁ ≡ filled g e → length w₁ ≡ length w₀ →
+      FillPromise g e f₀ f₁ w₀ w₁ r
   accepted-promise z f₁ w₁ q l =
       record {
         answer = answer;

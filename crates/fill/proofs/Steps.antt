@@ -35,5 +35,6 @@ module _ (g : Grid) (e : List ℤ) (w1 : List ℕ) (cells : length e ≡ size g)
     pub unloaded-filled : (w3 : List ℕ) → (len : ℕ) × Between g (frontOf (size g) w2) (backOf (size g) half w3) (size g) len
         → (G : List ℤ) → length G ≡ size g → ((c : ℕ) → c < size g → at G c ≡ levelOf (getD w3 c 0 / 65536)) → G ≡ filled g e
     unloaded-filled w3 (len, B) G l written =
-        flooded-filled g e (frontOf (size g) w2) cells range (λ c h. packed-key (size g) half w2 sorted-keys c h ∙ kept c h ∙ loaded c (omega arith))
+        flooded-filled g e (frontOf (size g) w2) cells range
+        (λ c h. packed-key (size g) half w2 sorted-keys c h ∙ kept c h ∙ loaded c (omega arith))
         (backOf (size g) half w3) len B G (λ c h. written c h ∙ ap levelOf (sym (back-level (size g) half w3 c h))) l

@@ -1,7 +1,8 @@
-// The call `fill` of document 01: elevations to the filled sheet, "what stands after rows × columns passes". Elevations are read once as keys into the work
-// buffer, their cells sorted by key, flooded through that order, and the levels written as elevations.
-// Proved by the certificate of fill_laws: what the flood leaves is an outlet's own elevation, no cell above both its own and a neighbour's level, and the place
-// in the queue bounds the passes that a cell needs. The questions 5 to 9 come first; only the work buffer is written before the last loop.
+// The call `fill` of document 01: elevations to the filled sheet, "what stands after rows × columns passes". Elevations are read once as
+// keys into the work buffer, their cells sorted by key, flooded through that order, and the levels written as elevations. Proved by the
+// certificate of fill_laws: what the flood leaves is an outlet's own elevation, no cell above both its own and a neighbour's level, and
+// the place in the queue bounds the passes that a cell needs. The questions 5 to 9 come first; only the work buffer is written before the
+// last loop.
 use grid::Answer;
 use grid::Grid;
 ghost use mathlib.Core.Path.{_≡_};
@@ -18,7 +19,8 @@ ghost use Rattle.grid_laws.proofs.Cells.{InRange};
 // Puts the keys of the elevations first into the work buffer.
 fn load(elevations: &[i16], work: &mut [u32])
     requires { ⌜ length (now elevations) ≤ length (now work) ⌝ }
-    ensures { λ r. ⌜ ((c : ℕ) → c < length (now (elevations .entry)) → getD (now (work .exit)) c 0 ≡ keyOf (at (now (elevations .entry)) c)) ⌝ }
+    ensures { λ r. ⌜ ((c : ℕ) → c < length (now (elevations .entry)) →
+        getD (now (work .exit)) c 0 ≡ keyOf (at (now (elevations .entry)) c)) ⌝ }
     ensures { λ r. ⌜ InRange (now (elevations .entry)) ⌝ }
 {
     let mut i: usize = 0;
@@ -61,7 +63,8 @@ pub fn fill_into(g: Grid, elevations: &[i16], filled: &mut [i16], work: &mut [u3
 
 // Question 5 to 9, and after a yes the filled sheet.
 pub fn fill(g: Grid, elevations: &[i16], filled: &mut [i16], work: &mut [u32]) -> Answer
-    ensures { λ r. ⌜ FillPromise g (now (elevations .entry)) (now (filled .entry)) (now (filled .exit)) (now (work .entry)) (now (work .exit)) r ⌝ }
+    ensures { λ r. ⌜ FillPromise g (now (elevations .entry)) (now (filled .entry)) (now (filled .exit)) (now (work .entry))
+        (now (work .exit)) r ⌝ }
 {
     let given = elevations.len();
     let wanted = filled.len();

@@ -65,7 +65,8 @@ module _ {size : ℕ} {Cell Out : ℕ → Type 0} {Next : ℕ → ℕ → Type 0
         go : Reached Out Next G queue i → ((j : ℕ) → j < i → G (queue j) ≤ℤ top) → G (queue i) ≤ℤ top
         go (inl o) r = rw (C .at-outlets (queue i) o) (L .input-≤-top (queue i) (L .out-cell (queue i) o))
         go (inr (j, k, b, m)) r =
-            ≤ℤ-trans (C .no-higher (queue i) (queue j) b) (higher-≤ (L .input-≤-top (queue i) (L .from-cell (queue i) (queue j) b)) (r j k))
+            ≤ℤ-trans (C .no-higher (queue i) (queue j) b)
+            (higher-≤ (L .input-≤-top (queue i) (L .from-cell (queue i) (queue j) b)) (r j k))
 
     certified-≤-top : (c : ℕ) → Cell c → G c ≤ℤ top
     certified-≤-top c d =

@@ -15,12 +15,15 @@ use Rattle.flood.specs.Distances.{Distances}
 use Rattle.key_sort.specs.Order.{Sorted}
 use Rattle.flood_laws.specs.Flood.{CellOf, Wanted, Touched, Room, Opens, Opening, During, Spread, Between}
 use Rattle.flood_laws.specs.Packed.{frontOf, backOf}
-use Rattle.flood_laws.proofs.Steps.{spread-none, during-first, during-most, skip-void, skip-reached, skip-closed, between-room, reach-first, drained}
+use Rattle.flood_laws.proofs.Steps.{spread-none, during-first, during-most, skip-void, skip-reached, skip-closed, between-room}
+use Rattle.flood_laws.proofs.Steps.{reach-first, drained}
 use Rattle.flood_laws.proofs.Packed.{front-key, front-order, back-queue, back-level, back-length, front-same, back-set}
 
 module _ (n half v m : ℕ) (w : List ℕ) where
   abbrev pub NoWanted : Type 0
-  NoWanted = (false ≡ true → Wanted n (frontOf n w) (backOf n half w) v m) × (false ≡ false → CellOf n (frontOf n w) m → (0 < getD (backOf n half w) (n + m) 0) ⊎ (v < getD (frontOf n w) m 0))
+  NoWanted =
+      (false ≡ true → Wanted n (frontOf n w) (backOf n half w) v m)
+      × (false ≡ false → CellOf n (frontOf n w) m → (0 < getD (backOf n half w) (n + m) 0) ⊎ (v < getD (frontOf n w) m 0))
 
   deny : (CellOf n (frontOf n w) m → (0 < getD (backOf n half w) (n + m) 0) ⊎ (v < getD (frontOf n w) m 0)) → NoWanted
   deny h = (λ e. absurd (true≢false (sym e)), λ e. h)
@@ -34,15 +37,20 @@ module _ (n half v m : ℕ) (w : List ℕ) where
   pub too-high : v < getD w m 0 → NoWanted
   too-high h = deny (λ t. go t (front-key n w m (t .0)) (back-level n half w m (t .0)))
     where
-      go : CellOf n (frontOf n w) m → getD (frontOf n w) m 0 ≡ getD w m 0 % 65536 → getD (backOf n half w) (n + m) 0 ≡ getD w m 0 / 65536 → (0 < getD (backOf n half w) (n + m) 0) ⊎ (v < getD (frontOf n w) m 0)
+      go : CellOf n (frontOf n w) m → getD (frontOf n w) m 0 ≡ getD w m 0 % 65536 → getD (backOf n half w) (n + m) 0 ≡ getD w m 0 / 65536 →
+          (0 < getD (backOf n half w) (n + m) 0) ⊎ (v < getD (frontOf n w) m 0)
       go t q r = split (native.Mathlib.Decide.decLt (getD w m 0) 65536)
         where
           split : Dec (getD w m 0 < 65536) → (0 < getD (backOf n half w) (n + m) 0) ⊎ (v < getD (frontOf n w) m 0)
           split (yes l) = inr (omega arith)
           split (no l) = inl (omega arith)
 
-  pub is-wanted : m < n → v < 65536 → (getD w m 0 ≡ 0 → ⊥) → getD w m 0 ≤ v → (true ≡ true → Wanted n (frontOf n w) (backOf n half w) v m) × (true ≡ false → CellOf n (frontOf n w) m → (0 < getD (backOf n half w) (n + m) 0) ⊎ (v < getD (frontOf n w) m 0))
-  is-wanted h u f l = let q = front-key n w m h in let r = back-level n half w m h in ((λ e. ((h, omega arith), omega arith, omega arith)), λ e. absurd (true≢false e))
+  pub is-wanted : m < n → v < 65536 → (getD w m 0 ≡ 0 → ⊥) → getD w m 0 ≤ v → (true ≡ true → Wanted n (frontOf n w) (backOf n half w) v m)
+      × (true ≡ false → CellOf n (frontOf n w) m → (0 < getD (backOf n half w) (n + m) 0) ⊎ (v < getD (frontOf n w) m 0))
+  is-wanted h u f l =
+      let q = front-key n w m h in
+      let r = back-level n half w m h in
+      ((λ e. ((h, omega arith), omega arith, omega arith)), λ e. absurd (true≢false e))
 
   pub wanted-low : Wanted n (frontOf n w) (backOf n half w) v m → getD w m 0 < 65536
   wanted-low W = let y = W .2 in omega (arith, back-level n half w m (W .0 .0))
@@ -62,13 +70,20 @@ module _ (n half v m : ℕ) (w : List ℕ) where
   pub opens-reached : m < n → 65536 ≤ getD w m 0 → DoesOpen
   opens-reached h l = yes′ (inr (let q = back-level n half w m h in omega arith))
 
-  pub opens-not : m < n → (getD w m 0 ≡ 0 → ⊥) → getD w m 0 < 65536 → (false ≡ true → Opens n (frontOf n w) (backOf n half w) m) × (false ≡ false → Opens n (frontOf n w) (backOf n half w) m → ⊥)
-  opens-not h f l = (λ q. absurd (true≢false (sym q)), λ q. ⊎-elim (λ n. let k = front-key _ w m h in n (h, omega arith)) (λ r. let k = back-level n half w m h in omega arith))
+  pub opens-not : m < n → (getD w m 0 ≡ 0 → ⊥) → getD w m 0 < 65536 → (false ≡ true → Opens n (frontOf n w) (backOf n half w) m)
+      × (false ≡ false → Opens n (frontOf n w) (backOf n half w) m → ⊥)
+  opens-not h f l = (
+    λ q. absurd (true≢false (sym q)),
+    λ q. ⊎-elim (λ n. let k = front-key _ w m h in n (h, omega arith)) (λ r. let k = back-level n half w m h in omega arith),
+  )
 
 -- a touch that reaches
 module _ (n half v len m : ℕ) (w w' : List ℕ) (hn : n + n ≤ half) (hl : half + n ≤ length w) (hq : len < n) {r : ℕ} where
-  pub touch-yes : r ≡ len + 1 → w' ≡ set (set w m (getD w m 0 + v * 65536)) (half + len) m → Wanted n (frontOf n w) (backOf n half w) v m → (frontOf n w' ≡ frontOf n w) × Touched n (frontOf n w) (backOf n half w) (backOf n half w') v len m r
-  touch-yes q e W = let l = wanted-low n half v m w W in rw e (front-same n half v len m w hn hl (W .0 .0) hq l, inr (q, back-set n half v len m w hn hl (W .0 .0) hq l, W))
+  pub touch-yes : r ≡ len + 1 → w' ≡ set (set w m (getD w m 0 + v * 65536)) (half + len) m → Wanted n (frontOf n w) (backOf n half w) v m →
+      (frontOf n w' ≡ frontOf n w) × Touched n (frontOf n w) (backOf n half w) (backOf n half w') v len m r
+  touch-yes q e W =
+      let l = wanted-low n half v m w W in
+      rw e (front-same n half v len m w hn hl (W .0 .0) hq l, inr (q, back-set n half v len m w hn hl (W .0 .0) hq l, W))
 
 -- the neighbour of a cell within the border, by its distance from the cell above to the left
 pub inner-at : (g : Grid) (c p : ℕ) (ways : List ℕ) → Inner g (c / g .cols) (c % g .cols) → Distances (g .cols) ways → p < 8
@@ -91,10 +106,13 @@ module _ (g : Grid) (half k v head len : ℕ) (f w : List ℕ) (D : During g f (
   first-on h = let t = during-first g f (backOf (size g) half w) k v head len D h in rw (first-is h) at (t .0)
 
   pub spread-start : head < len → Spread g f (backOf (size g) half w) k v head len (getD w (half + head) 0) 0
-  spread-start h = spread-none g f (backOf (size g) half w) k v head len (getD w (half + head) 0) 0 D h (first-is h) (rw (back-length (size g) half w) (omega arith))
+  spread-start h =
+      spread-none g f (backOf (size g) half w) k v head len (getD w (half + head) 0) 0 D h (first-is h)
+      (rw (back-length (size g) half w) (omega arith))
 
 -- the visit of the cell at the place k of the order
-module _ (g : Grid) (half k len : ℕ) (w : List ℕ) (hn : size g + size g ≤ half) (hl : half + size g ≤ length w) (hk : k < size g) (S : Sorted (size g) (frontOf (size g) w)) where
+module _ (g : Grid) (half k len : ℕ) (w : List ℕ) (hn : size g + size g ≤ half) (hl : half + size g ≤ length w) (hk : k < size g)
+    (S : Sorted (size g) (frontOf (size g) w)) where
   cell-is : getD (frontOf (size g) w) (size g + k) 0 ≡ getD w (size g + k) 0
   cell-is = front-order (size g) w k hk
 
@@ -109,12 +127,17 @@ module _ (g : Grid) (half k len : ℕ) (w : List ℕ) (hn : size g + size g ≤ 
 
   module _ (B : Between g (frontOf (size g) w) (backOf (size g) half w) k len) where
     pub visit-void : getD w (getD w (size g + k) 0) 0 ≡ 0 → Between g (frontOf (size g) w) (backOf (size g) half w) (k + 1) len
-    visit-void e = skip-void g (frontOf (size g) w) (backOf (size g) half w) S k len hk (getD w (size g + k) 0) cell-is B (let y = key-is in omega arith)
+    visit-void e =
+        skip-void g (frontOf (size g) w) (backOf (size g) half w) S k len hk (getD w (size g + k) 0) cell-is B
+        (let y = key-is in omega arith)
 
     pub visit-reached : 65536 ≤ getD w (getD w (size g + k) 0) 0 → Between g (frontOf (size g) w) (backOf (size g) half w) (k + 1) len
-    visit-reached h = skip-reached g (frontOf (size g) w) (backOf (size g) half w) S k len hk (getD w (size g + k) 0) cell-is B (let e = level-is in omega arith)
+    visit-reached h =
+        skip-reached g (frontOf (size g) w) (backOf (size g) half w) S k len hk (getD w (size g + k) 0) cell-is B
+        (let e = level-is in omega arith)
 
-    pub visit-closed : (Opening g (frontOf (size g) w) (backOf (size g) half w) (getD w (size g + k) 0) → ⊥) → Between g (frontOf (size g) w) (backOf (size g) half w) (k + 1) len
+    pub visit-closed : (Opening g (frontOf (size g) w) (backOf (size g) half w) (getD w (size g + k) 0) → ⊥) →
+        Between g (frontOf (size g) w) (backOf (size g) half w) (k + 1) len
     visit-closed f = skip-closed g (frontOf (size g) w) (backOf (size g) half w) S k len hk (getD w (size g + k) 0) cell-is B f
 
     module _ (t : getD w (getD w (size g + k) 0) 0 ≡ 0 → ⊥) (low : getD w (getD w (size g + k) 0) 0 < 65536) where
@@ -131,17 +154,26 @@ module _ (g : Grid) (half k len : ℕ) (w : List ℕ) (hn : size g + size g ≤ 
       visit-room = between-room g (frontOf (size g) w) (backOf (size g) half w) S k len hk B (getD w (size g + k) 0) cell-on new
 
       module _ (o : Opening g (frontOf (size g) w) (backOf (size g) half w) (getD w (size g + k) 0)) (w' : List ℕ)
-          (e : w' ≡ set (set w (getD w (size g + k) 0) (getD w (getD w (size g + k) 0) 0 + getD w (getD w (size g + k) 0) 0 * 65536)) (half + len) (getD w (size g + k) 0)) where
+          (e : w' ≡ set (set w (getD w (size g + k) 0) (getD w (getD w (size g + k) 0) 0 + getD w (getD w (size g + k) 0) 0 * 65536))
+          (half + len) (getD w (size g + k) 0)) where
         front-kept : frontOf (size g) w' ≡ frontOf (size g) w
-        front-kept = rw e (front-same (size g) half (getD w (getD w (size g + k) 0) 0) len (getD w (size g + k) 0) w hn hl cell-on visit-room low)
+        front-kept =
+            rw e (front-same (size g) half (getD w (getD w (size g + k) 0) 0) len (getD w (size g + k) 0) w hn hl cell-on visit-room low)
 
-        back-is : backOf (size g) half w' ≡ set (set (backOf (size g) half w) (size g + getD w (size g + k) 0) (getD w (getD w (size g + k) 0) 0)) len (getD w (size g + k) 0)
-        back-is = rw e (back-set (size g) half (getD w (getD w (size g + k) 0) 0) len (getD w (size g + k) 0) w hn hl cell-on visit-room low)
+        back-is : backOf (size g) half w'
+            ≡ set (set (backOf (size g) half w) (size g + getD w (size g + k) 0) (getD w (getD w (size g + k) 0) 0)) len
+            (getD w (size g + k) 0)
+        back-is =
+            rw e (back-set (size g) half (getD w (getD w (size g + k) 0) 0) len (getD w (size g + k) 0) w hn hl cell-on visit-room low)
 
-        pub visit-first : {more : ℕ} → more ≡ len + 1 → During g (frontOf (size g) w') (backOf (size g) half w') k (getD w (getD w (size g + k) 0) 0) len more
+        pub visit-first : {more : ℕ} → more ≡ len + 1 →
+            During g (frontOf (size g) w') (backOf (size g) half w') k (getD w (getD w (size g + k) 0) 0) len more
         visit-first {more} q =
             rw (front-kept, back-is, q)
-            (rw same-key at (reach-first g (frontOf (size g) w) (backOf (size g) half w) S k len hk (getD w (size g + k) 0) cell-is B (rw (back-length (size g) half w) (omega arith)) (let y = same-key in omega arith) new o))
+            (rw same-key at (reach-first g (frontOf (size g) w) (backOf (size g) half w) S k len hk (getD w (size g + k) 0) cell-is B
+            (rw (back-length (size g) half w) (omega arith)) (let y = same-key in omega arith) new o))
 
-        pub visit-end : (x : List ℕ) (v r : ℕ) → frontOf (size g) x ≡ frontOf (size g) w' → During g (frontOf (size g) w') (backOf (size g) half x) k v r r → (frontOf (size g) x ≡ frontOf (size g) w) × Between g (frontOf (size g) w) (backOf (size g) half x) (k + 1) r
+        pub visit-end : (x : List ℕ) (v r : ℕ) → frontOf (size g) x ≡ frontOf (size g) w' →
+            During g (frontOf (size g) w') (backOf (size g) half x) k v r r →
+            (frontOf (size g) x ≡ frontOf (size g) w) × Between g (frontOf (size g) w) (backOf (size g) half x) (k + 1) r
         visit-end x v r q D = (q ∙ front-kept, drained g (frontOf (size g) w) (backOf (size g) half x) S k r hk v (rw front-kept at D))

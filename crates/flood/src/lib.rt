@@ -1,7 +1,8 @@
-// The flood of document 01's "Fill", in linear time: through the cells in order of key; a cell that is not reached, and is an outlet or beside a reached cell, is
-// reached at its own key, and so is what lies no higher beside it, and beside that, through the queue of waiting cells. "the queue of waiting cells lies in the
-// second half of the lent work buffer": `reach` lends that half on to `push`.
-// Proved by the state in flood_laws: `Between` two cells of the order, `During` the emptying of the queue. Each function says what it makes of that state.
+// The flood of document 01's "Fill", in linear time: through the cells in order of key; a cell that is not reached, and is an outlet or
+// beside a reached cell, is reached at its own key, and so is what lies no higher beside it, and beside that, through the queue of waiting
+// cells. "the queue of waiting cells lies in the second half of the lent work buffer": `reach` lends that half on to `push`. Proved by the
+// state in flood_laws: `Between` two cells of the order, `During` the emptying of the queue. Each function says what it makes of that
+// state.
 use grid::Grid;
 ghost use mathlib.Core.Path.{_≡_};
 ghost use mathlib.Core.Bool.{Bool, true, false, not, _||_};
@@ -21,7 +22,8 @@ fn wanted(n: usize, v: u32, m: usize, work: &[u32], half: usize) -> bool
     requires { ⌜ v < 65536 ⌝ }
     requires { ⌜ m < n ⌝ }
     ensures { λ r. ⌜ (r ≡ true → Wanted n (frontOf n (now (work .entry))) (backOf n half (now (work .entry))) v m) ⌝ }
-    ensures { λ r. ⌜ (r ≡ false → CellOf n (frontOf n (now (work .entry))) m → (0 < getD (backOf n half (now (work .entry))) (n + m) 0) ⊎ (v < getD (frontOf n (now (work .entry))) m 0)) ⌝ }
+    ensures { λ r. ⌜ (r ≡ false → CellOf n (frontOf n (now (work .entry))) m → (0 < getD (backOf n half (now (work .entry))) (n + m) 0)
+        ⊎ (v < getD (frontOf n (now (work .entry))) m 0)) ⌝ }
 {
     let word = work[m];
     if word == 0 {
@@ -70,7 +72,8 @@ fn touch(n: usize, half: usize, v: u32, len: usize, m: usize, work: &mut [u32]) 
     requires { ⌜ Room n (backOf n half (now work)) len ⌝ }
     requires { ⌜ m < n ⌝ }
     ensures { λ r. ⌜ frontOf n (now (work .exit)) ≡ frontOf n (now (work .entry)) ⌝ }
-    ensures { λ r. ⌜ Touched n (frontOf n (now (work .entry))) (backOf n half (now (work .entry))) (backOf n half (now (work .exit))) v len m r ⌝ }
+    ensures { λ r. ⌜ Touched n (frontOf n (now (work .entry))) (backOf n half (now (work .entry))) (backOf n half (now (work .exit))) v len
+        m r ⌝ }
 {
     if !wanted(n, v, m, work, half) {
         return len;
@@ -86,7 +89,8 @@ fn touch_any(n: usize, half: usize, v: u32, len: usize, m: usize, work: &mut [u3
     requires { ⌜ v < 65536 ⌝ }
     requires { ⌜ Room n (backOf n half (now work)) len ⌝ }
     ensures { λ r. ⌜ frontOf n (now (work .exit)) ≡ frontOf n (now (work .entry)) ⌝ }
-    ensures { λ r. ⌜ Touched n (frontOf n (now (work .entry))) (backOf n half (now (work .entry))) (backOf n half (now (work .exit))) v len m r ⌝ }
+    ensures { λ r. ⌜ Touched n (frontOf n (now (work .entry))) (backOf n half (now (work .entry))) (backOf n half (now (work .exit))) v len
+        m r ⌝ }
 {
     if m >= n {
         return len;
@@ -322,8 +326,9 @@ fn opening_border(g: Grid, half: usize, c: usize, work: &[u32]) -> bool
     false
 }
 
-// Whether the data cell `c` is an outlet or beside a reached cell. Both are one test here: a step leads off the sheet, to a void or to a reached cell.
-// Where other cells are outlets (document 02, closed sides), this function and the two above change, and nothing else in the flood.
+// Whether the data cell `c` is an outlet or beside a reached cell. Both are one test here: a step leads off the sheet, to a void or to a
+// reached cell. Where other cells are outlets (document 02, closed sides), this function and the two above change, and nothing else in the
+// flood.
 fn is_opening(g: Grid, half: usize, c: usize, ways: &[usize; 8], work: &[u32]) -> bool
     requires { ⌜ size g < 2 ^ 24 ⌝ }
     requires { ⌜ g .cols < 2 ^ 24 ⌝ }
@@ -378,7 +383,8 @@ pub fn flood(g: Grid, half: usize, work: &mut [u32])
     requires { ⌜ Sorted (size g) (frontOf (size g) (now work)) ⌝ }
     requires { ⌜ ((c : ℕ) → c < size g → getD (backOf (size g) half (now work)) (size g + c) 0 ≡ 0) ⌝ }
     ensures { λ r. ⌜ frontOf (size g) (now (work .exit)) ≡ frontOf (size g) (now (work .entry)) ⌝ }
-    ensures { λ r. ⌜ ((len : ℕ) × Between g (frontOf (size g) (now (work .entry))) (backOf (size g) half (now (work .exit))) (size g) len) ⌝ }
+    ensures { λ r. ⌜ ((len : ℕ) × Between g (frontOf (size g) (now (work .entry))) (backOf (size g) half (now (work .exit))) (size g)
+        len) ⌝ }
 {
     let n = g.rows * g.cols;
     let ways = distances(g.cols);

@@ -35,21 +35,24 @@ module _ (n half : ℕ) (w : List ℕ) where
 
   pub back-level : (c : ℕ) → c < n → getD (backOf n half w) (n + c) 0 ≡ getD w c 0 / 65536
   unfolding backOf
-  back-level c h = at-table (n + n) _ (n + c) 0 (omega arith) ∙ rw (le-ltb (n + c) n (omega arith)) (ap (λ (x : ℕ). getD w x 0 / 65536) (omega arith))
+  back-level c h =
+      at-table (n + n) _ (n + c) 0 (omega arith) ∙ rw (le-ltb (n + c) n (omega arith)) (ap (λ (x : ℕ). getD w x 0 / 65536) (omega arith))
 
   pub back-length : length (backOf n half w) ≡ n + n
   unfolding backOf
   back-length = length-table (n + n) _
 
 -- two lists of 2 n that agree in both halves
-both : (n : ℕ) (a b : List ℕ) → length a ≡ n + n → length b ≡ n + n → ((i : ℕ) → i < n → getD a i 0 ≡ getD b i 0) → ((i : ℕ) → i < n → getD a (n + i) 0 ≡ getD b (n + i) 0) → a ≡ b
+both : (n : ℕ) (a b : List ℕ) → length a ≡ n + n → length b ≡ n + n → ((i : ℕ) → i < n → getD a i 0 ≡ getD b i 0) →
+    ((i : ℕ) → i < n → getD a (n + i) 0 ≡ getD b (n + i) 0) → a ≡ b
 both n a b la lb p q = ext-getD 0 a b (la ∙ sym lb) (λ i h. go i h (decLt i n))
   where
     go : (i : ℕ) → i < length a → Dec (i < n) → getD a i 0 ≡ getD b i 0
     go i h (yes l) = p i l
     go i h (no l) = let e : i ≡ n + (i - n) = omega arith in subst (λ (x : ℕ). getD a x 0 ≡ getD b x 0) (sym e) (q (i - n) (omega arith))
 
-module _ (n half v len m : ℕ) (w : List ℕ) (hn : n + n ≤ half) (hl : half + n ≤ length w) (hm : m < n) (hq : len < n) (low : getD w m 0 < 65536) where
+module _ (n half v len m : ℕ) (w : List ℕ) (hn : n + n ≤ half) (hl : half + n ≤ length w) (hm : m < n) (hq : len < n)
+    (low : getD w m 0 < 65536) where
   -- the buffer when m is reached
   w' : List ℕ
   w' = set (set w m (getD w m 0 + v * 65536)) (half + len) m
@@ -60,7 +63,9 @@ module _ (n half v len m : ℕ) (w : List ℕ) (hn : n + n ≤ half) (hl : half 
 
   word : getD w' m 0 ≡ getD w m 0 + v * 65536
   unfolding w'
-  word = getD-set-other (set w m (getD w m 0 + v * 65536)) (half + len) m m 0 (λ e. omega arith) ∙ getD-set-same w m (getD w m 0 + v * 65536) 0 (omega arith)
+  word =
+      getD-set-other (set w m (getD w m 0 + v * 65536)) (half + len) m m 0 (λ e. omega arith)
+      ∙ getD-set-same w m (getD w m 0 + v * 65536) 0 (omega arith)
 
   last : getD w' (half + len) 0 ≡ m
   unfolding w'
@@ -68,7 +73,10 @@ module _ (n half v len m : ℕ) (w : List ℕ) (hn : n + n ≤ half) (hl : half 
 
   pub front-same : frontOf n (set (set w m (getD w m 0 + v * 65536)) (half + len) m) ≡ frontOf n w
   unfolding w'
-  front-same = both n (frontOf n w') (frontOf n w) (front-length n w') (front-length n w) (λ i h. front-key n w' i h ∙ key i h (ℕ-discrete i m) ∙ sym (front-key n w i h)) (λ i h. front-order n w' i h ∙ other (n + i) (λ e. omega arith) (λ e. omega arith) ∙ sym (front-order n w i h))
+  front-same =
+      both n (frontOf n w') (frontOf n w) (front-length n w') (front-length n w)
+      (λ i h. front-key n w' i h ∙ key i h (ℕ-discrete i m) ∙ sym (front-key n w i h))
+      (λ i h. front-order n w' i h ∙ other (n + i) (λ e. omega arith) (λ e. omega arith) ∙ sym (front-order n w i h))
     where
       key : (i : ℕ) → i < n → Dec (i ≡ m) → getD w' i 0 % 65536 ≡ getD w i 0 % 65536
       key i h (yes e) = rw e (let y = word in omega arith)
@@ -77,17 +85,32 @@ module _ (n half v len m : ℕ) (w : List ℕ) (hn : n + n ≤ half) (hl : half 
   pub back-set : backOf n half (set (set w m (getD w m 0 + v * 65536)) (half + len) m) ≡ set (set (backOf n half w) (n + m) v) len m
   unfolding w'
   back-set =
-      both n (backOf n half w') (set (set (backOf n half w) (n + m) v) len m) (back-length n half w') (length-set (set (backOf n half w) (n + m) v) len m ∙ length-set (backOf n half w) (n + m) v ∙ back-length n half w)
+      both n (backOf n half w') (set (set (backOf n half w) (n + m) v) len m) (back-length n half w')
+      (length-set (set (backOf n half w) (n + m) v) len m ∙ length-set (backOf n half w) (n + m) v ∙ back-length n half w)
       (λ i h. back-queue n half w' i h ∙ queue i h (ℕ-discrete i len))
       (λ i h. back-level n half w' i h ∙ level i h (ℕ-discrete i m))
     where
       queue : (i : ℕ) → i < n → Dec (i ≡ len) → getD w' (half + i) 0 ≡ getD (set (set (backOf n half w) (n + m) v) len m) i 0
-      queue i h (yes e) = rw e (last ∙ sym (getD-set-same (set (backOf n half w) (n + m) v) len m 0 (rw length-set (rw (back-length n half w) (omega arith)))))
-      queue i h (no f) = other (half + i) (λ e. omega arith) (λ e. f (omega arith)) ∙ sym (back-queue n half w i h) ∙ sym (getD-set-other (set (backOf n half w) (n + m) v) len i m 0 f ∙ getD-set-other (backOf n half w) (n + m) i v 0 (λ e. omega arith))
+      queue i h (yes e) =
+          rw e
+          (last ∙ sym (getD-set-same (set (backOf n half w) (n + m) v) len m 0 (rw length-set (rw (back-length n half w) (omega arith)))))
+      queue i h (no f) =
+          other (half + i) (λ e. omega arith) (λ e. f (omega arith))
+          ∙ sym (back-queue n half w i h)
+          ∙ sym (getD-set-other (set (backOf n half w) (n + m) v) len i m 0 f
+          ∙ getD-set-other (backOf n half w) (n + m) i v 0 (λ e. omega arith))
 
       level : (i : ℕ) → i < n → Dec (i ≡ m) → getD w' i 0 / 65536 ≡ getD (set (set (backOf n half w) (n + m) v) len m) (n + i) 0
-      level i h (yes e) = rw e (let y = word in let z : getD w' m 0 / 65536 ≡ v = omega arith in z ∙ sym (getD-set-other (set (backOf n half w) (n + m) v) len (n + m) m 0 (λ q. omega arith) ∙ getD-set-same (backOf n half w) (n + m) v 0 (rw (back-length n half w) (omega arith))))
-      level i h (no f) = ap (λ (x : ℕ). x / 65536) (other i f (λ e. omega arith)) ∙ sym (back-level n half w i h) ∙ sym (getD-set-other (set (backOf n half w) (n + m) v) len (n + i) m 0 (λ e. omega arith) ∙ getD-set-other (backOf n half w) (n + m) (n + i) v 0 (λ e. f (omega arith)))
+      level i h (yes e) =
+          rw e (let y = word in let z : getD w' m 0 / 65536 ≡ v = omega arith in
+          z
+          ∙ sym (getD-set-other (set (backOf n half w) (n + m) v) len (n + m) m 0 (λ q. omega arith)
+          ∙ getD-set-same (backOf n half w) (n + m) v 0 (rw (back-length n half w) (omega arith))))
+      level i h (no f) =
+          ap (λ (x : ℕ). x / 65536) (other i f (λ e. omega arith))
+          ∙ sym (back-level n half w i h)
+          ∙ sym (getD-set-other (set (backOf n half w) (n + m) v) len (n + i) m 0 (λ e. omega arith)
+          ∙ getD-set-other (backOf n half w) (n + m) (n + i) v 0 (λ e. f (omega arith)))
 
 -- keys alone: nothing is reached, and the order of the buffer is that of the front
 module _ (n half : ℕ) (w : List ℕ) (small : (x : ℕ) → x < n → getD w x 0 < 65536) where
@@ -102,7 +125,10 @@ module _ (n half : ℕ) (w : List ℕ) (small : (x : ℕ) → x < n → getD w x
       record {
         on = λ j l. rw (front-order n w j l) (S .on j l);
         all = λ c l. go c (S .all c l);
-        rising = λ i j k l. let li : i < n = omega arith in rw (front-order n w i li, front-order n w j l) (rw (packed-key (getD w (n + i) 0) (S .on i li), packed-key (getD w (n + j) 0) (S .on j l)) (S .rising i j k l));
+        rising =
+            λ i j k l. let li : i < n = omega arith in
+            rw (front-order n w i li, front-order n w j l)
+            (rw (packed-key (getD w (n + i) 0) (S .on i li), packed-key (getD w (n + j) 0) (S .on j l)) (S .rising i j k l));
       }
     where
       go : (c : ℕ) → Ahead n w 0 c → Ahead n (frontOf n w) 0 c

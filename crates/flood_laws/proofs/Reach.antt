@@ -17,7 +17,8 @@ module _ {size : ℕ} {Cell Out : ℕ → Type 0} {Next : ℕ → ℕ → Type 0
     (F : Flood size Cell Out Next Later key queue level v head len) where
   -- one reaches c
   module _ (c : ℕ) (t : Cell c) (new : level c ≡ 0) (kv : key c ≤ v) (pv : 0 < v) (why : Out c ⊎ ((j : ℕ) × (j < len) × Next c (queue j)))
-      (queue' level' : ℕ → ℕ) (level-c : level' c ≡ v) (level-other : (y : ℕ) → (y ≡ c → ⊥) → level' y ≡ level y) (qc : queue' len ≡ c) (q-other : (i : ℕ) → i < len → queue' i ≡ queue i) where
+      (queue' level' : ℕ → ℕ) (level-c : level' c ≡ v) (level-other : (y : ℕ) → (y ≡ c → ⊥) → level' y ≡ level y) (qc : queue' len ≡ c)
+      (q-other : (i : ℕ) → i < len → queue' i ≡ queue i) where
     -- a reached cell keeps its level
     kept : (x : ℕ) → 0 < level x → level' x ≡ level x
     kept x h = level-other x (λ e. let z : level x ≡ 0 = rw e new in omega arith)
@@ -50,13 +51,19 @@ module _ {size : ℕ} {Cell Out : ℕ → Type 0} {Next : ℕ → ℕ → Type 0
     reached =
         record {
           queued = below-more _ len (λ i l. let q = old i l in (rw (q-other i l) (q .2), omega arith)) (rw qc (t, rw level-c pv));
-          placed = λ x l h. ⊎-elim (λ w. (len, omega arith, qc ∙ sym (w .0))) (λ w. let p = F .placed x l (w .0) in (p .0, let y = p .1 in omega arith, q-other (p .0) (p .1) ∙ p .2)) (was x h);
-          under = λ x l h. ⊎-elim (λ w. let a : key x ≤ v = rw (w .0) kv in let e = w .1 in (omega arith, omega arith)) (λ w. rw (w .1) (F .under x l (w .0))) (was x h);
+          placed =
+              λ x l h. ⊎-elim (λ w. (len, omega arith, qc ∙ sym (w .0)))
+              (λ w. let p = F .placed x l (w .0) in (p .0, let y = p .1 in omega arith, q-other (p .0) (p .1) ∙ p .2)) (was x h);
+          under =
+              λ x l h. ⊎-elim (λ w. let a : key x ≤ v = rw (w .0) kv in let e = w .1 in (omega arith, omega arith))
+              (λ w. rw (w .1) (F .under x l (w .0))) (was x h);
           front = below-more _ len (λ i l k. old i l .0 ∙ F .front i l k) (λ k. rw qc level-c);
           parents = below-more _ len parent-old parent-new;
           outs = λ x o h. ⊎-elim (λ w. w .1 ∙ rw (w .0) (out-level (subst Out (w .0) o))) (λ w. w .1 ∙ F .outs x o (w .0)) (was x h);
           outs-later = λ x o h. F .outs-later x o (unreached x h (ℕ-discrete x c));
-          spread = λ i m h b. let l : i < len = (let y = F .order in omega arith) in ⊎-elim (λ r. inl (rw (kept m r) r)) inr (F .spread i m h (rw (q-other i l) at b));
+          spread =
+              λ i m h b. let l : i < len = (let y = F .order in omega arith) in
+              ⊎-elim (λ r. inl (rw (kept m r) r)) inr (F .spread i m h (rw (q-other i l) at b));
           flat = λ x m b h k. flat′ x m b (was x h) (was m k);
           count = (let y = F .count in let z = more-marks size level level' c (on c t) new (rw level-c pv) level-other in omega arith);
           order = (let y = F .order in omega arith);
@@ -66,28 +73,44 @@ module _ {size : ℕ} {Cell Out : ℕ → Type 0} {Next : ℕ → ℕ → Type 0
         unreached x h (yes e) = rw e new
         unreached x h (no f) = sym (level-other x f) ∙ h
 
-        parent-old : (i : ℕ) → i < len → Out (queue' i) ⊎ ((j : ℕ) × (j < i) × Next (queue' i) (queue' j) × (level' (queue' j) ≤ level' (queue' i)))
+        parent-old : (i : ℕ) → i < len →
+            Out (queue' i) ⊎ ((j : ℕ) × (j < i) × Next (queue' i) (queue' j) × (level' (queue' j) ≤ level' (queue' i)))
         parent-old i l = rw (q-other i l) (go (F .parents i l))
           where
-            go : Out (queue i) ⊎ ((j : ℕ) × (j < i) × Next (queue i) (queue j) × (level (queue j) ≤ level (queue i))) → Out (queue i) ⊎ ((j : ℕ) × (j < i) × Next (queue i) (queue' j) × (level' (queue' j) ≤ level' (queue i)))
+            go : Out (queue i) ⊎ ((j : ℕ) × (j < i) × Next (queue i) (queue j) × (level (queue j) ≤ level (queue i))) →
+                Out (queue i) ⊎ ((j : ℕ) × (j < i) × Next (queue i) (queue' j) × (level' (queue' j) ≤ level' (queue i)))
             go (inl o) = inl o
-            go (inr (j, lj, b, h)) = let k : j < len = omega arith in let p = old j k .0 in let q = kept (queue i) (old i l .1) in inr (j, lj, rw (q-other j k) b, omega arith)
+            go (inr (j, lj, b, h)) =
+                let k : j < len = omega arith in
+                let p = old j k .0 in
+                let q = kept (queue i) (old i l .1) in
+                inr (j, lj, rw (q-other j k) b, omega arith)
 
         parent-new : Out (queue' len) ⊎ ((j : ℕ) × (j < len) × Next (queue' len) (queue' j) × (level' (queue' j) ≤ level' (queue' len)))
         parent-new = rw qc (go why)
           where
-            go : Out c ⊎ ((j : ℕ) × (j < len) × Next c (queue j)) → Out c ⊎ ((j : ℕ) × (j < len) × Next c (queue' j) × (level' (queue' j) ≤ level' c))
+            go : Out c ⊎ ((j : ℕ) × (j < len) × Next c (queue j)) →
+                Out c ⊎ ((j : ℕ) × (j < len) × Next c (queue' j) × (level' (queue' j) ≤ level' c))
             go (inl o) = inl o
-            go (inr (j, k, b)) = let p = old j k in let h = F .under (queue j) (on (queue j) (p .2)) (p .1) in let e = level-c in inr (j, k, rw (q-other j k) b, omega arith)
+            go (inr (j, k, b)) =
+                let p = old j k in
+                let h = F .under (queue j) (on (queue j) (p .2)) (p .1) in
+                let e = level-c in
+                inr (j, k, rw (q-other j k) b, omega arith)
 
-        flat′ : (x m : ℕ) → Next x m → ((x ≡ c) × (level' x ≡ v)) ⊎ ((0 < level x) × (level' x ≡ level x)) → ((m ≡ c) × (level' m ≡ v)) ⊎ ((0 < level m) × (level' m ≡ level m)) → (level' x ≤ key x) ⊎ (level' x ≤ level' m)
+        flat′ : (x m : ℕ) → Next x m → ((x ≡ c) × (level' x ≡ v)) ⊎ ((0 < level x) × (level' x ≡ level x)) →
+            ((m ≡ c) × (level' m ≡ v)) ⊎ ((0 < level m) × (level' m ≡ level m)) → (level' x ≤ key x) ⊎ (level' x ≤ level' m)
         flat′ x m b (inl w) (inl u) = let p = w .1 in let q = u .1 in inr (omega arith)
-        flat′ x m b (inl w) (inr u) = ⊎-elim (λ h. inl (rw (w .1, w .0) h)) (λ e. let p = w .1 in let q = u .1 in inr (omega arith)) (beside-c m (rw (w .0) at b) (u .0))
-        flat′ x m b (inr w) (inl u) = let p = w .1 in let q = u .1 in let h = F .under x (on x (next-from x m b)) (w .0) .1 in inr (omega arith)
+        flat′ x m b (inl w) (inr u) =
+            ⊎-elim (λ h. inl (rw (w .1, w .0) h)) (λ e. let p = w .1 in let q = u .1 in inr (omega arith))
+            (beside-c m (rw (w .0) at b) (u .0))
+        flat′ x m b (inr w) (inl u) =
+            let p = w .1 in let q = u .1 in let h = F .under x (on x (next-from x m b)) (w .0) .1 in inr (omega arith)
         flat′ x m b (inr w) (inr u) = rw (w .1, u .1) (F .flat x m b (w .0) (u .0))
 
   -- what is spread before the queue's first is spread: so the first goes
-  pub popped : head < len → ((m : ℕ) → Next (queue head) m → (0 < level m) ⊎ Later m) → Flood size Cell Out Next Later key queue level v (head + 1) len
+  pub popped : head < len → ((m : ℕ) → Next (queue head) m → (0 < level m) ⊎ Later m) →
+      Flood size Cell Out Next Later key queue level v (head + 1) len
   popped l s =
       record {
         queued = F .queued;
@@ -106,7 +129,9 @@ module _ {size : ℕ} {Cell Out : ℕ → Type 0} {Next : ℕ → ℕ → Type 0
 -- at the next place of the order: the level rises, and a cell that is no longer ahead is reached, or no outlet and beside no reached cell
 module _ {size : ℕ} {Cell Out : ℕ → Type 0} {Next : ℕ → ℕ → Type 0} {Later Later' : ℕ → Type 0} {key queue level : ℕ → ℕ} {v w len : ℕ}
     (F : Flood size Cell Out Next Later key queue level v len len) where
-  pub moved : v ≤ w → ((c : ℕ) → Out c → level c ≡ 0 → Later c → Later' c) → ((i m : ℕ) → i < len → Next (queue i) m → Later m → (0 < level m) ⊎ Later' m) → Flood size Cell Out Next Later' key queue level w len len
+  pub moved : v ≤ w → ((c : ℕ) → Out c → level c ≡ 0 → Later c → Later' c) →
+      ((i m : ℕ) → i < len → Next (queue i) m → Later m → (0 < level m) ⊎ Later' m) →
+      Flood size Cell Out Next Later' key queue level w len len
   moved h o s =
       record {
         queued = F .queued;

@@ -12,7 +12,8 @@ use Rattle.grid.specs.declared.Grid.{Grid}
 use Rattle.grid.specs.Sheet.{size, neighbour, Touch}
 use Rattle.grid_laws.proofs.Neighbours.{touch-back}
 use Rattle.key_sort.specs.Order.{Ahead, Sorted}
-use Rattle.flood_laws.specs.Flood.{marked, Flood, CellOf, NextTo, OutletOf, FloodOf, Between, During, Spread, Settled, Wanted, Touched, Room, Opens, Opening}
+use Rattle.flood_laws.specs.Flood.{marked, Flood, CellOf, NextTo, OutletOf, FloodOf, Between, During, Spread, Settled, Wanted}
+use Rattle.flood_laws.specs.Flood.{Touched, Room, Opens, Opening}
 use Rattle.flood_laws.proofs.Marks.{room, no-marks, at-most}
 use Rattle.flood_laws.proofs.Reach as Reach
 
@@ -31,7 +32,8 @@ module _ (n : ℕ) (b : List ℕ) (v len m : ℕ) (hm : m < n) (hl : len < n) (l
 
   after-level-other : (y : ℕ) → (y ≡ m → ⊥) → getD after (n + y) 0 ≡ getD b (n + y) 0
   unfolding after
-  after-level-other y x = getD-set-other (set b (n + m) v) len (n + y) m 0 (λ e. omega arith) ∙ getD-set-other b (n + m) (n + y) v 0 (λ e. x (omega arith))
+  after-level-other y x =
+      getD-set-other (set b (n + m) v) len (n + y) m 0 (λ e. omega arith) ∙ getD-set-other b (n + m) (n + y) v 0 (λ e. x (omega arith))
 
   after-queue : getD after len 0 ≡ m
   unfolding after
@@ -64,7 +66,8 @@ module _ (g : Grid) (f b : List ℕ) (k v head len : ℕ) (D : During g f b k v 
   during-first h = D .flood .queued head h .0
 
   -- one cell is reached
-  module _ (lb : size g + size g ≤ length b) (m : ℕ) (W : Wanted (size g) f b v m) (why : OutletOf g f m ⊎ ((j : ℕ) × (j < len) × NextTo g f m (getD b j 0))) where
+  module _ (lb : size g + size g ≤ length b) (m : ℕ) (W : Wanted (size g) f b v m)
+      (why : OutletOf g f m ⊎ ((j : ℕ) × (j < len) × NextTo g f m (getD b j 0))) where
     full : len < size g
     full = during-room m (W .0 .0) (W .2)
 
@@ -73,7 +76,9 @@ module _ (g : Grid) (f b : List ℕ) (k v head len : ℕ) (D : During g f b k v 
     during-reached =
         record {
           flood =
-              Reach.reached (λ c t. t .0) (λ c o. o .0) (λ c x n. n .0) (next-back g f) (D .low) (D .flood) m (W .0) (W .2) (W .1) (D .some) why (λ i. getD (after (size g) b v len m (W .0 .0) full lb) i 0) (λ c. getD (after (size g) b v len m (W .0 .0) full lb) (size g + c) 0)
+              Reach.reached (λ c t. t .0) (λ c o. o .0) (λ c x n. n .0) (next-back g f) (D .low) (D .flood) m (W .0) (W .2) (W .1)
+              (D .some) why (λ i. getD (after (size g) b v len m (W .0 .0) full lb) i 0)
+              (λ c. getD (after (size g) b v len m (W .0 .0) full lb) (size g + c) 0)
               (after-level (size g) b v len m (W .0 .0) full lb)
               (after-level-other (size g) b v len m (W .0 .0) full lb)
               (after-queue (size g) b v len m (W .0 .0) full lb)
@@ -90,7 +95,8 @@ module _ (g : Grid) (f b : List ℕ) (k v head len x p : ℕ) where
   spread-none D h e l = record { during = D; more = h; first = e; room = l; done = λ q y. let z : ⊥ = omega arith in absurd z }
 
   module _ (S : Spread g f b k v head len x p) (hp : p < 8) where
-    passed : (CellOf (size g) f (neighbour g x p) → (0 < getD b (size g + neighbour g x p) 0) ⊎ (v < getD f (neighbour g x p) 0)) → Spread g f b k v head len x (p + 1)
+    passed : (CellOf (size g) f (neighbour g x p) → (0 < getD b (size g + neighbour g x p) 0) ⊎ (v < getD f (neighbour g x p) 0)) →
+        Spread g f b k v head len x (p + 1)
     passed h =
         record {
           during = S .during;
@@ -100,15 +106,20 @@ module _ (g : Grid) (f b : List ℕ) (k v head len x p : ℕ) where
           done = below-more _ p (S .done) (λ t. ⊎-elim inl (λ u. inr (S .during .high (neighbour g x p) t u)) (h t));
         }
 
-    touched : Wanted (size g) f b v (neighbour g x p) → Spread g f (set (set b (size g + neighbour g x p) v) len (neighbour g x p)) k v head (len + 1) x (p + 1)
+    touched : Wanted (size g) f b v (neighbour g x p) →
+        Spread g f (set (set b (size g + neighbour g x p) v) len (neighbour g x p)) k v head (len + 1) x (p + 1)
     unfolding after
     touched W =
         record {
-          during = during-reached g f b k v head len (S .during) (S .room) m W (inr (head, S .more, rw (S .first) (next-back g f x m (cell, W .0, (p, hp, refl)))));
+          during =
+              during-reached g f b k v head len (S .during) (S .room) m W
+              (inr (head, S .more, rw (S .first) (next-back g f x m (cell, W .0, (p, hp, refl)))));
           more = (let y = S .more in omega arith);
           first = after-queue-other (size g) b v len m (W .0 .0) less (S .room) head (S .more) ∙ S .first;
           room = (let y = S .room in omega (arith, after-length (size g) b v len m (W .0 .0) less (S .room)));
-          done = below-more _ p (λ q y t. ⊎-elim (λ r. inl (keep (neighbour g x q) r)) inr (S .done q y t)) (λ t. inl (rw (after-level (size g) b v len m (W .0 .0) less (S .room)) (S .during .some)));
+          done =
+              below-more _ p (λ q y t. ⊎-elim (λ r. inl (keep (neighbour g x q) r)) inr (S .done q y t))
+              (λ t. inl (rw (after-level (size g) b v len m (W .0 .0) less (S .room)) (S .during .some)));
         }
       where
         m : ℕ
@@ -123,14 +134,17 @@ module _ (g : Grid) (f b : List ℕ) (k v head len x p : ℕ) where
         keep : (y : ℕ) → 0 < getD b (size g + y) 0 → 0 < getD (set (set b (size g + m) v) len m) (size g + y) 0
         keep y h = after-kept (size g) b v len m (W .0 .0) less (S .room) (S .during .some) y h
 
-    pub spread-more : {b' : List ℕ} {m r : ℕ} → m ≡ neighbour g x p → Touched (size g) f b b' v len m r → Spread g f b' k v head r x (p + 1)
+    pub spread-more : {b' : List ℕ} {m r : ℕ} → m ≡ neighbour g x p → Touched (size g) f b b' v len m r →
+        Spread g f b' k v head r x (p + 1)
     spread-more {b'} {m} {r} e (inl (q, s, h)) = rw (q, s) (passed (rw e at h))
     spread-more {b'} {m} {r} e (inr (q, s, w)) = rw (q, s, e) (touched (rw e at w))
 
   pub spread-end : Spread g f b k v head len x p → 8 ≤ p → During g f b k v (head + 1) len
   spread-end S h =
       record {
-        flood = Reach.popped (λ c t. t .0) (λ c o. o .0) (λ c y n. n .0) (next-back g f) (S .during .low) (S .during .flood) (S .more) (λ m n. go m n (n .2));
+        flood =
+            Reach.popped (λ c t. t .0) (λ c o. o .0) (λ c y n. n .0) (next-back g f) (S .during .low) (S .during .flood) (S .more)
+            (λ m n. go m n (n .2));
         low = S .during .low;
         high = S .during .high;
         some = S .during .some;
@@ -192,18 +206,32 @@ module _ (g : Grid) (f b : List ℕ) (S : Sorted (size g) f) where
     sooner m (j, h, l, e) = (j, omega arith, l, e)
 
     module _ (c : ℕ) (ec : getD f (size g + k) 0 ≡ c) where
-      onward : (v : ℕ) → FloodOf g f b k v len len → (OutletOf g f c → getD b (size g + c) 0 ≡ 0 → ⊥) → ((i : ℕ) → i < len → NextTo g f (getD b i 0) c → 0 < getD b (size g + c) 0) → FloodOf g f b (k + 1) v len len
+      onward : (v : ℕ) → FloodOf g f b k v len len → (OutletOf g f c → getD b (size g + c) 0 ≡ 0 → ⊥) →
+          ((i : ℕ) → i < len → NextTo g f (getD b i 0) c → 0 < getD b (size g + c) 0) → FloodOf g f b (k + 1) v len len
       onward v F no-out no-nb =
           Reach.moved F (omega arith)
-          (λ x o e a. ⊎-elim (λ q. let q′ : x ≡ c = q ∙ ec in absurd (no-out (subst (OutletOf g f) q′ o) (subst (λ (y : ℕ). getD b (size g + y) 0 ≡ 0) q′ e))) (λ l. l) (later x a))
-          (λ i m h n a. ⊎-elim (λ q. let q′ : m ≡ c = q ∙ ec in inl (subst (λ (y : ℕ). 0 < getD b (size g + y) 0) (sym q′) (no-nb i h (subst (NextTo g f (getD b i 0)) q′ n)))) (λ l. inr l) (later m a))
+          (λ x o e a. ⊎-elim (λ q. let q′ : x ≡ c = q ∙ ec in
+          absurd (no-out (subst (OutletOf g f) q′ o) (subst (λ (y : ℕ). getD b (size g + y) 0 ≡ 0) q′ e))) (λ l. l) (later x a))
+          (λ i m h n a. ⊎-elim (λ q. let q′ : m ≡ c = q ∙ ec in
+          inl (subst (λ (y : ℕ). 0 < getD b (size g + y) 0) (sym q′) (no-nb i h (subst (NextTo g f (getD b i 0)) q′ n)))) (λ l. inr l)
+          (later m a))
 
       module _ (B : Between g f b k len) where
         pub skip-void : getD f c 0 ≡ 0 → Between g f b (k + 1) len
-        skip-void e = record { v = B .v; flood = onward (B .v) (B .flood) (λ o h. let y = o .0 .1 in omega arith) (λ i h n. let y = n .1 .1 in let z : ⊥ = omega arith in absurd z); low = λ m a. B .low m (sooner m a) }
+        skip-void e =
+            record {
+              v = B .v;
+              flood = onward (B .v) (B .flood) (λ o h. let y = o .0 .1 in omega arith)
+                  (λ i h n. let y = n .1 .1 in let z : ⊥ = omega arith in absurd z);
+              low = λ m a. B .low m (sooner m a);
+            }
 
         pub skip-reached : 0 < getD b (size g + c) 0 → Between g f b (k + 1) len
-        skip-reached r = record { v = B .v; flood = onward (B .v) (B .flood) (λ o h. omega arith) (λ i h n. r); low = λ m a. B .low m (sooner m a) }
+        skip-reached r = record {
+          v = B .v;
+          flood = onward (B .v) (B .flood) (λ o h. omega arith) (λ i h n. r);
+          low = λ m a. B .low m (sooner m a);
+        }
 
         pub skip-closed : (Opening g f b c → ⊥) → Between g f b (k + 1) len
         skip-closed n =
@@ -231,7 +259,10 @@ module _ (g : Grid) (f b : List ℕ) (S : Sorted (size g) f) where
               go (j, h, l, e) = go′ (decLt j k)
                 where
                   go′ : Dec (j < k) → Ahead (size g) f k m
-                  go′ (yes y) = let z : getD f m 0 ≤ getD f c 0 = (rw (ec, e) at (S .rising j k (omega arith) hk)) in let z′ : ⊥ = omega arith in absurd z′
+                  go′ (yes y) =
+                      let z : getD f m 0 ≤ getD f c 0 = (rw (ec, e) at (S .rising j k (omega arith) hk)) in
+                      let z′ : ⊥ = omega arith in
+                      absurd z′
                   go′ (no y) = (j, omega arith, l, e)
 
           raised : FloodOf g f b k (getD f c 0) len len
@@ -252,7 +283,9 @@ module _ (g : Grid) (f b : List ℕ) (S : Sorted (size g) f) where
           reach-first =
               record {
                 flood =
-                    Reach.reached (λ x y. y .0) (λ x y. y .0) (λ x y n. n .0) (next-back g f) low′ raised c (on, t) new (omega arith) t why (λ i. getD (after (size g) b (getD f c 0) len c on less lb) i 0) (λ x. getD (after (size g) b (getD f c 0) len c on less lb) (size g + x) 0)
+                    Reach.reached (λ x y. y .0) (λ x y. y .0) (λ x y n. n .0) (next-back g f) low′ raised c (on, t) new (omega arith) t why
+                    (λ i. getD (after (size g) b (getD f c 0) len c on less lb) i 0)
+                    (λ x. getD (after (size g) b (getD f c 0) len c on less lb) (size g + x) 0)
                     (after-level (size g) b (getD f c 0) len c on less lb)
                     (after-level-other (size g) b (getD f c 0) len c on less lb)
                     (after-queue (size g) b (getD f c 0) len c on less lb)
@@ -268,4 +301,10 @@ module _ (g : Grid) (f b : List ℕ) (S : Sorted (size g) f) where
 
     -- the queue is empty again
     pub drained : (v : ℕ) → During g f b k v len len → Between g f b (k + 1) len
-    drained v D = record { v = v; flood = onward (getD f (size g + k) 0) refl v (D .flood) (λ o h. let y = D .here in omega arith) (λ i h n. D .here); low = λ m a. D .low m (sooner m a) }
+    drained v D =
+        record {
+          v = v;
+          flood = onward (getD f (size g + k) 0) refl v (D .flood) (λ o h. let y = D .here in omega arith)
+              (λ i h n. D .here);
+          low = λ m a. D .low m (sooner m a);
+        }

@@ -1,5 +1,5 @@
--- The state of a flood, over two lists: f, with the keys of the cells and then the cells in order of key, which stays; and b, with the queue of the reached
--- cells and then the level of each cell, its filled key, 0 where it is not reached.
+-- The state of a flood, over two lists: f, with the keys of the cells and then the cells in order of key, which stays; and b, with the
+-- queue of the reached cells and then the level of each cell, its filled key, 0 where it is not reached.
 use mathlib.Core.Path.{_≡_}
 use mathlib.Core.Bool.{Bool, cond}
 use mathlib.Core.Logic.{_⊎_}
@@ -17,7 +17,8 @@ marked zero level = 0
 marked (suc n) level = cond (ltb 0 (level n)) 1 0 + marked n level
 
 -- the invariant, with no geometry: the first len of the queue are reached, those from head on are still to be spread, at the level v
-pub record Flood (size : ℕ) (Cell Out : ℕ → Type 0) (Next : ℕ → ℕ → Type 0) (Later : ℕ → Type 0) (key queue level : ℕ → ℕ) (v head len : ℕ) : Type 0 where
+pub record Flood (size : ℕ) (Cell Out : ℕ → Type 0) (Next : ℕ → ℕ → Type 0) (Later : ℕ → Type 0) (key queue level : ℕ → ℕ)
+    (v head len : ℕ) : Type 0 where
   pub queued : (i : ℕ) → i < len → Cell (queue i) × (0 < level (queue i))
   pub placed : (c : ℕ) → c < size → 0 < level c → (i : ℕ) × (i < len) × (queue i ≡ c)
   pub under : (c : ℕ) → c < size → 0 < level c → (key c ≤ level c) × (level c ≤ v)
@@ -44,7 +45,8 @@ OutletOf g f c = CellOf (size g) f c × ((p : ℕ) × (p < 8) × (CellOf (size g
 
 abbrev pub FloodOf : Grid → List ℕ → List ℕ → (k v head len : ℕ) → Type 0
 FloodOf g f b k v head len =
-    Flood (size g) (CellOf (size g) f) (OutletOf g f) (NextTo g f) (Ahead (size g) f k) (λ c. getD f c 0) (λ i. getD b i 0) (λ c. getD b (size g + c) 0) v head len
+    Flood (size g) (CellOf (size g) f) (OutletOf g f) (NextTo g f) (Ahead (size g) f k) (λ c. getD f c 0) (λ i. getD b i 0)
+    (λ c. getD b (size g + c) 0) v head len
 
 -- between two cells of the order
 pub record Between (g : Grid) (f b : List ℕ) (k len : ℕ) : Type 0 where

@@ -1,5 +1,5 @@
--- The work buffer of a flood: the word of each cell, its key and 65536 times its level, 0 where it is not reached; then the cells in order of key;
--- and in the second half, from half on, the queue. What of it the flood leaves, and what it changes, each as one list.
+-- The work buffer of a flood: the word of each cell, its key and 65536 times its level, 0 where it is not reached; then the cells in order
+-- of key; and in the second half, from half on, the queue. What of it the flood leaves, and what it changes, each as one list.
 use mathlib.Core.Bool.{cond}
 use mathlib.Core.List.{List}
 use Prim.Native.Nat.{ℕ, _+_, _-_, _/_, _%_}

@@ -1,6 +1,6 @@
-// "The frames", printing: the four results of a sheet as upper-case text at the front of a lent buffer (header, filled rows, codes, counts,
-// labels), and the line of a refusal. What is stored is the definition's text, byte for byte, and the bytes past it are untouched: one run of
-// stores after the other is one run.
+// "The frames", printing: the four results of a sheet as upper-case text at the front of a lent buffer (header, filled rows, codes,
+// counts, labels), and the line of a refusal. What is stored is the definition's text, byte for byte, and the bytes past it are untouched:
+// one run of stores after the other is one run.
 ghost use Prim.Native.Nat.{_≤_};
 ghost use lib.ListN.{length};
 ghost use Rattle.grid.specs.Frames.{headerText, resultText, refusalText};
@@ -35,7 +35,8 @@ pub fn write_results(
     out: &mut [u8],
 ) -> usize
     requires { ⌜ Sheets g (now filled) (now codes) (now counts) (now labels) (now out) ⌝ }
-    ensures { λ r. ⌜ Printed (resultText g (now (filled .entry)) (now (codes .entry)) (now (counts .entry)) (now (labels .entry))) (now (out .entry)) (now (out .exit)) r ⌝ }
+    ensures { λ r. ⌜ Printed (resultText g (now (filled .entry)) (now (codes .entry)) (now (counts .entry)) (now (labels .entry)))
+        (now (out .entry)) (now (out .exit)) r ⌝ }
 {
     let rows = header(g, out);
     let after_filled = elevations_sheet(g, filled, out, rows);

@@ -1,4 +1,5 @@
--- "Questions at the gate": for each call, what it asks and in which order, with the number and the place of a no. A list is spoken of by its length.
+-- "Questions at the gate": for each call, what it asks and in which order, with the number and the place of a no. A list is spoken of by
+-- its length.
 use mathlib.Core.Path.{_≡_}
 use mathlib.Core.Bool.{Bool, true, false, cond, _&&_}
 use mathlib.Core.List.{List, [], _∷_}
@@ -43,7 +44,8 @@ allHave n (l ∷ ls) = eqb l n && allHave n ls
 
 -- 5 to 8, for the lengths of the input sheets and of the result sheets
 unfoldable pub askSheets : Grid → List ℕ → List ℕ → Answer → Answer
-askSheets g inputs results later = askSize g (ask (allHave (size g) inputs) (refusal 7 0) (ask (allHave (size g) results) (refusal 8 0) later))
+askSheets g inputs results later =
+    askSize g (ask (allHave (size g) inputs) (refusal 7 0) (ask (allHave (size g) results) (refusal 8 0) later))
 
 -- "9. Is the work buffer long enough?": "at least 4 × rows × columns"
 unfoldable pub askWork : Grid → ℕ → Answer → Answer
@@ -78,10 +80,12 @@ drainCheck g elevations filled codes counts labels work =
 -- "13. Is the start 0 wherever the code is 0?"
 unfoldable pub watershedsCheck : Grid → List ℕ → List ℕ → (watersheds work : ℕ) → Answer
 watershedsCheck g codes starts watersheds work =
-    askSheets g (length codes ∷ length starts ∷ []) (watersheds ∷ []) (askWork g work (askCodes g codes (askCell 13 g (firstBadStart g codes starts) accepted)))
+    askSheets g (length codes ∷ length starts ∷ []) (watersheds ∷ [])
+    (askWork g work (askCodes g codes (askCell 13 g (firstBadStart g codes starts) accepted)))
 
 unfoldable pub startsCheck : Grid → List ℕ → (counts starts work : ℕ) → Answer
-startsCheck g codes counts starts work = askSheets g (length codes ∷ counts ∷ []) (starts ∷ []) (askWork g work (askCodes g codes accepted))
+startsCheck g codes counts starts work =
+    askSheets g (length codes ∷ counts ∷ []) (starts ∷ []) (askWork g work (askCodes g codes accepted))
 
 -- 8 for Table 6: "have the four columns of Table 6 one length?" "14. Do the columns hold all pairs? Place: the number of pairs"
 unfoldable pub pourPointsCheck : Grid → List ℤ → List ℕ → (smaller larger elevation cell : ℕ) → Answer

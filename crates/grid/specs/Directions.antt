@@ -19,8 +19,8 @@ drop g e c p = at e c -ℤ at e (neighbour g c p)
 unfoldable pub squaredDistance : Grid → ℕ → ℕ
 squaredDistance g p = cond (eqb (p % 2) 0) 2 1
 
--- "The weighted drop divides by √2 at corners. So a side drop a beats a corner drop b, neither negative, when 2 × a × a > b × b; they tie only at 0.
--- A negative drop loses to any drop of 0 or more": a at position p has the larger weighted drop than b at position q
+-- "The weighted drop divides by √2 at corners. So a side drop a beats a corner drop b, neither negative, when 2 × a × a > b × b; they tie
+-- only at 0. A negative drop loses to any drop of 0 or more": a at position p has the larger weighted drop than b at position q
 unfoldable pub beats : Grid → ℤ → ℕ → ℤ → ℕ → Bool
 beats g (pos a) p (pos b) q = ltb (b * b * squaredDistance g p) (a * a * squaredDistance g q)
 beats g (pos a) p (negsuc b) q = true
@@ -86,7 +86,9 @@ levels g e = levelPasses g e (size g)
 
 -- "the sum of the codes of equal neighbours at level k", for a cell of level k + 1
 unfoldable pub flatSum : Grid → List ℤ → List ℕ → ℕ → ℕ
-flatSum g e l c = sumBelow 8 (λ p. cond (isEqual g e c p && eqb (suc (getD l (neighbour g c p) 0)) (getD l c 0) && ltb 0 (getD l (neighbour g c p) 0)) (codeAt p) 0)
+flatSum g e l c =
+    sumBelow 8 (λ p. cond (isEqual g e c p && eqb (suc (getD l (neighbour g c p) 0)) (getD l c 0) && ltb 0 (getD l (neighbour g c p) 0))
+    (codeAt p) 0)
 
 -- the code of a cell, where l are the levels. "A void has code 0"
 unfoldable pub directionAt : Grid → List ℤ → List ℕ → ℕ → ℕ

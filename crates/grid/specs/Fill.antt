@@ -19,7 +19,8 @@ lowestTo g e f c (suc p) =
     let l : ℤ = lowestTo g e f c p in
     cond (isData e (neighbour g c p)) (lower l (at f (neighbour g c p))) l
 
--- "One pass gives each data cell the larger of its input elevation and the lowest value, before the pass, among itself and its data neighbours"; "voids stay"
+-- "One pass gives each data cell the larger of its input elevation and the lowest value, before the pass, among itself and its data
+-- neighbours"; "voids stay"
 unfoldable pub passAt : Grid → List ℤ → List ℤ → ℕ → ℤ
 passAt g e f c = cond (isData e c) (higher (at e c) (lowestTo g e f c 8)) void
 

@@ -30,7 +30,8 @@ isTextByte b = ltb (hexValue b) 16 || eqb b lineFeed
 -- the number that 4 digits from place i on make
 unfoldable pub number4 : List ℕ → ℕ → ℕ
 number4 text i =
-    4096 * hexValue (getD text i 0) + 256 * hexValue (getD text (i + 1) 0) + 16 * hexValue (getD text (i + 2) 0) + hexValue (getD text (i + 3) 0)
+    4096 * hexValue (getD text i 0) + 256 * hexValue (getD text (i + 1) 0) + 16 * hexValue (getD text (i + 2) 0)
+    + hexValue (getD text (i + 3) 0)
 
 -- "a line of 4 digits for rows and 4 for columns"
 unfoldable pub textGrid : List ℕ → Grid
@@ -40,7 +41,8 @@ textGrid text = gridOf (number4 text 0) (number4 text 4)
 unfoldable pub endsLine : ℕ → ℕ → Bool
 endsLine cols i = eqb i 8 || (leb 9 i && eqb ((i - 9) % (4 * cols + 1)) (4 * cols))
 
--- 3, where every byte is a digit or a line feed: the length is that of the header's line and of rows lines, and line feeds stand where lines end and nowhere else
+-- 3, where every byte is a digit or a line feed: the length is that of the header's line and of rows lines, and line feeds stand where
+-- lines end and nowhere else
 unfoldable pub isShaped : List ℕ → Bool
 isShaped text =
     leb 9 (length text)

@@ -19,8 +19,8 @@ pub record PathToOutlet (g : Grid) (e : List ℤ) (c : ℕ) (l : List ℕ) : Typ
   pub chain : Chain g e l
   pub outlet : Outlet g e (lastOf l (size g))
 
--- "A rival sheet has the rows, columns, voids and outlets of the sheet handed in. At each data cell it is not below the input, and from each data cell
--- some chain to an outlet never rises on it"
+-- "A rival sheet has the rows, columns, voids and outlets of the sheet handed in. At each data cell it is not below the input, and from
+-- each data cell some chain to an outlet never rises on it"
 pub record DrainedSheet (g : Grid) (e f : List ℤ) : Type 0 where
   pub cells : length f ≡ size g
   pub voids : (c : ℕ) → c < size g → isData f c ≡ isData e c
@@ -34,8 +34,8 @@ Follows g codes [] = Unit {0}
 Follows g codes (c ∷ []) = Unit {0}
 Follows g codes (c ∷ d ∷ l) = (receiver g codes c ≡ d) × Follows g codes (d ∷ l)
 
--- "our route follows the directions, ends at the outlet that its label names, passes no cell twice; its highest input elevation is the cell's filled elevation;
--- no chain of data cells to an outlet has a lower one"
+-- "our route follows the directions, ends at the outlet that its label names, passes no cell twice; its highest input elevation is the
+-- cell's filled elevation; no chain of data cells to an outlet has a lower one"
 pub record RouteGuarantee (g : Grid) (e filled : List ℤ) (codes labels : List ℕ) (c : ℕ) (l : List ℕ) : Type 0 where
   pub starts : headOf l (size g) ≡ c
   pub follows : Follows g codes l

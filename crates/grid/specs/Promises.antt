@@ -17,7 +17,8 @@ use Rattle.grid.specs.Directions as D
 use Rattle.grid.specs.Routes as R
 use Rattle.grid.specs.Starts as S
 use Rattle.grid.specs.PourPoints.{Entry, pourPoints}
-use Rattle.grid.specs.Checks.{isAccepted, fillCheck, directionsCheck, codesCheck, drainCheck, watershedsCheck, startsCheck, pourPointsCheck, reported, ofCounted, ofDimensions}
+use Rattle.grid.specs.Checks.{isAccepted, fillCheck, directionsCheck, codesCheck, drainCheck, watershedsCheck, startsCheck}
+use Rattle.grid.specs.Checks.{pourPointsCheck, reported, ofCounted, ofDimensions}
 use Rattle.grid.specs.Frames.{readCheck, textGrid, textSheet}
 use Rattle.grid.specs.Guarantee.{Guarantee}
 
@@ -55,7 +56,8 @@ pub record WatershedsPromise (g : Grid) (codes starts watersheds₀ watersheds�
   pub result : watersheds₁ ≡ resultOf r (R.watersheds g codes starts) watersheds₀
   pub work : WorkBuffer (r .number) work₀ work₁
 
-pub record StartsPromise (g : Grid) (codes counts : List ℕ) (threshold : ℕ) (starts₀ starts₁ work₀ work₁ : List ℕ) (r : Counted) : Type 0 where
+pub record StartsPromise (g : Grid) (codes counts : List ℕ) (threshold : ℕ) (starts₀ starts₁ work₀ work₁ : List ℕ)
+    (r : Counted) : Type 0 where
   pub answer : ofCounted r ≡ startsCheck g codes (length counts) (length starts₀) (length work₀)
   pub count : r .count ≡ reported (ofCounted r) (S.startCount g codes counts threshold)
   pub result : starts₁ ≡ resultOf (ofCounted r) (S.starts g codes counts threshold) starts₀
@@ -65,7 +67,8 @@ pub record StartsPromise (g : Grid) (codes counts : List ℕ) (threshold : ℕ) 
 abbrev pub columnOf : {A : Type 0} → Answer → (Entry → A) → List Entry → List A → List A
 columnOf a field entries entry = resultOf a (map field entries ++ drop (length entries) entry) entry
 
-pub record PourPointsPromise (g : Grid) (elevations : List ℤ) (labels smaller₀ smaller₁ larger₀ larger₁ : List ℕ) (elevation₀ elevation₁ : List ℤ) (cell₀ cell₁ : List ℕ) (r : Counted) : Type 0 where
+pub record PourPointsPromise (g : Grid) (elevations : List ℤ) (labels smaller₀ smaller₁ larger₀ larger₁ : List ℕ)
+    (elevation₀ elevation₁ : List ℤ) (cell₀ cell₁ : List ℕ) (r : Counted) : Type 0 where
   pub answer : ofCounted r ≡ pourPointsCheck g elevations labels (length smaller₀) (length larger₀) (length elevation₀) (length cell₀)
   pub count : r .count ≡ reported (ofCounted r) (length (pourPoints g elevations labels))
   pub smaller : smaller₁ ≡ columnOf (ofCounted r) (λ x. x .smaller) (pourPoints g elevations labels) smaller₀
@@ -81,7 +84,8 @@ pub record ReadPromise (text : List ℕ) (elevations₀ elevations₁ : List ℤ
   pub result : elevations₁ ≡ resultOf (ofDimensions r) (textSheet text ++ drop (size (textGrid text)) elevations₀) elevations₀
 
 -- the one call: the four results, and demand 3 about the lists that it leaves
-pub record DrainPromise (g : Grid) (elevations filled₀ filled₁ : List ℤ) (codes₀ codes₁ counts₀ counts₁ labels₀ labels₁ work₀ work₁ : List ℕ) (r : Answer) : Type 0 where
+pub record DrainPromise (g : Grid) (elevations filled₀ filled₁ : List ℤ)
+    (codes₀ codes₁ counts₀ counts₁ labels₀ labels₁ work₀ work₁ : List ℕ) (r : Answer) : Type 0 where
   pub answer : r ≡ drainCheck g (length elevations) (length filled₀) (length codes₀) (length counts₀) (length labels₀) (length work₀)
   pub filled : filled₁ ≡ resultOf r (F.filled g elevations) filled₀
   pub codes : codes₁ ≡ resultOf r (D.directions g (F.filled g elevations)) codes₀

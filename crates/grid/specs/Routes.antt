@@ -33,8 +33,8 @@ hasCode codes c = ltb (positionAt codes c) 8
 unfoldable pub receiver : Grid → List ℕ → ℕ → ℕ
 receiver g codes c = neighbour g c (positionAt codes c)
 
--- "A route starts at a cell with a code above 0 and follows codes. It ends at the first cell whose code points off the sheet or at a cell with code 0".
--- A route that ends passes no cell twice, so it has at most rows × columns cells
+-- "A route starts at a cell with a code above 0 and follows codes. It ends at the first cell whose code points off the sheet or at a cell
+-- with code 0". A route that ends passes no cell twice, so it has at most rows × columns cells
 abbrev pub route : Grid → List ℕ → ℕ → List ℕ
 route g codes c = follow (hasCode codes) (receiver g codes) (size g) c
 

@@ -14,7 +14,8 @@ use Rattle.grid.specs.Routes.{hasCode, receiver}
 -- "delta is the count of the cell flowed into minus the cell's own, perhaps negative; a cell where a route ends or with code 0 has 0"
 unfoldable pub delta : Grid → List ℕ → List ℕ → ℕ → ℤ
 delta g codes counts c =
-    cond (hasCode codes c && hasCode codes (receiver g codes c)) (pos (getD counts (receiver g codes c) 0) -ℤ pos (getD counts c 0)) (pos 0)
+    cond (hasCode codes c && hasCode codes (receiver g codes c))
+    (pos (getD counts (receiver g codes c) 0) -ℤ pos (getD counts c 0)) (pos 0)
 
 -- "Cells with count and delta both above the threshold"
 unfoldable pub isStart : Grid → List ℕ → List ℕ → ℕ → ℕ → Bool

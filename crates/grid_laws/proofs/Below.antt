@@ -9,7 +9,8 @@ use native.Mathlib.Decide.{ℕ-discrete, decLt}
 use lib.ListN.{length, getD}
 use lib.Seq.{ext-getD}
 use Rattle.grid.specs.Below.{table, anyBelow, sumBelow, countBelow, firstBelow}
-use Rattle.grid_laws.proofs.Tests.{test, true-false, cond-true, cond-false, or-left, or-right, or-false, or-cases, or-none-left, or-none-right}
+use Rattle.grid_laws.proofs.Tests.{test, true-false, cond-true, cond-false, or-left, or-right, or-false, or-cases, or-none-left}
+use Rattle.grid_laws.proofs.Tests.{or-none-right}
 
 -- ---- tables
 
@@ -26,7 +27,8 @@ length-table (suc n) f = ap suc (length-table n (λ k. f (suc k)))
 
 -- a list is the table of what stands in it
 pub is-table : {A : Type 0} (n : ℕ) (f : ℕ → A) (l : List A) (d : A) → length l ≡ n → ((c : ℕ) → c < n → getD l c d ≡ f c) → l ≡ table n f
-is-table n f l d e h = ext-getD d l (table n f) (e ∙ sym (length-table n f)) (λ i k. h i (omega arith) ∙ sym (at-table n f i d (omega arith)))
+is-table n f l d e h =
+    ext-getD d l (table n f) (e ∙ sym (length-table n f)) (λ i k. h i (omega arith) ∙ sym (at-table n f i d (omega arith)))
 
 pub table-ext : {A : Type 0} (n : ℕ) (f h : ℕ → A) → ((c : ℕ) → c < n → f c ≡ h c) → table n f ≡ table n h
 unfolding table
@@ -49,7 +51,8 @@ unfolding anyBelow
 some-of-any zero p e = true-false e refl
 some-of-any (suc n) p e = go (some-of-any n p) (or-cases (anyBelow n p) (p n) e)
   where
-    go : (anyBelow n p ≡ true → (k : ℕ) × (k < n) × (p k ≡ true)) → (anyBelow n p ≡ true) ⊎ (p n ≡ true) → (k : ℕ) × (k < suc n) × (p k ≡ true)
+    go : (anyBelow n p ≡ true → (k : ℕ) × (k < n) × (p k ≡ true)) → (anyBelow n p ≡ true) ⊎ (p n ≡ true) →
+        (k : ℕ) × (k < suc n) × (p k ≡ true)
     go r (inl q) = let w = r q in let l = w .1 in (w .0, omega arith, w .2)
     go r (inr q) = (n, omega arith, q)
 
@@ -141,10 +144,12 @@ unfolding firstBelow
 first-before zero p j l = let z : ⊥ = omega arith in absurd z
 first-before (suc n) p j l = go (test (p 0)) j l (λ i. first-before n (λ k. p (suc k)) i)
   where
-    go : (p 0 ≡ true) ⊎ (p 0 ≡ false) → (j : ℕ) → j < cond (p 0) 0 (suc (firstBelow n (λ k. p (suc k)))) → ((i : ℕ) → i < firstBelow n (λ k. p (suc k)) → p (suc i) ≡ false) → p j ≡ false
+    go : (p 0 ≡ true) ⊎ (p 0 ≡ false) → (j : ℕ) → j < cond (p 0) 0 (suc (firstBelow n (λ k. p (suc k)))) →
+        ((i : ℕ) → i < firstBelow n (λ k. p (suc k)) → p (suc i) ≡ false) → p j ≡ false
     go (inl q) j l r = let z : j < 0 = subst (λ (x : ℕ). j < x) (cond-true 0 _ q) l in let y : ⊥ = omega arith in absurd y
     go (inr q) zero l r = q
-    go (inr q) (suc i) l r = let z : suc i < suc (firstBelow n (λ k. p (suc k))) = subst (λ (x : ℕ). suc i < x) (cond-false 0 _ q) l in r i (omega arith)
+    go (inr q) (suc i) l r =
+        let z : suc i < suc (firstBelow n (λ k. p (suc k))) = subst (λ (x : ℕ). suc i < x) (cond-false 0 _ q) l in r i (omega arith)
 
 pub first-≤ : (n : ℕ) (p : ℕ → Bool) → firstBelow n p ≤ n
 unfolding firstBelow
@@ -160,7 +165,9 @@ unfolding firstBelow
 first-found zero p l = let z : ⊥ = omega arith in absurd z
 first-found (suc n) p l = go (test (p 0)) l (λ m. first-found n (λ k. p (suc k)) m)
   where
-    go : (p 0 ≡ true) ⊎ (p 0 ≡ false) → cond (p 0) 0 (suc (firstBelow n (λ k. p (suc k)))) < suc n → (firstBelow n (λ k. p (suc k)) < n → p (suc (firstBelow n (λ k. p (suc k)))) ≡ true) → p (cond (p 0) 0 (suc (firstBelow n (λ k. p (suc k))))) ≡ true
+    go : (p 0 ≡ true) ⊎ (p 0 ≡ false) → cond (p 0) 0 (suc (firstBelow n (λ k. p (suc k)))) < suc n →
+        (firstBelow n (λ k. p (suc k)) < n → p (suc (firstBelow n (λ k. p (suc k)))) ≡ true) →
+        p (cond (p 0) 0 (suc (firstBelow n (λ k. p (suc k))))) ≡ true
     go (inl q) m r = subst (λ (x : ℕ). p x ≡ true) (sym (cond-true 0 _ q)) q
     go (inr q) m r =
         let z : suc (firstBelow n (λ k. p (suc k))) < suc n = subst (λ (x : ℕ). x < suc n) (cond-false 0 _ q) m in
@@ -173,4 +180,6 @@ first-all n p e j l = first-before n p j (omega arith)
 pub first-ext : (n : ℕ) (p q : ℕ → Bool) → ((k : ℕ) → k < n → p k ≡ q k) → firstBelow n p ≡ firstBelow n q
 unfolding firstBelow
 first-ext zero p q h = refl
-first-ext (suc n) p q h = ap₂ (λ (b : Bool) (x : ℕ). cond b 0 (suc x)) (h 0 (omega arith)) (first-ext n (λ k. p (suc k)) (λ k. q (suc k)) (λ k l. h (suc k) (omega arith)))
+first-ext (suc n) p q h =
+    ap₂ (λ (b : Bool) (x : ℕ). cond b 0 (suc x)) (h 0 (omega arith))
+    (first-ext n (λ k. p (suc k)) (λ k. q (suc k)) (λ k l. h (suc k) (omega arith)))

@@ -73,7 +73,8 @@ pub few : (n : ℕ) (l : List ℕ) → Distinct l → ((x : ℕ) → In x l → 
 few zero [] u b = omega arith
 few zero (y ∷ l) u b = let h : y < 0 = b y (inl refl) in omega arith
 few (suc n) l u b =
-    let h : length (without n l) ≤ n = few n (without n l) (distinct-without n l u) (λ x i. below x (b x (in-without n x l i)) (not-without n x l u i)) in
+    let h : length (without n l) ≤ n =
+    few n (without n l) (distinct-without n l u) (λ x i. below x (b x (in-without n x l i)) (not-without n x l u i)) in
     omega (arith, shorter n l)
   where
     below : (x : ℕ) → x < suc n → (x ≡ n → ⊥) → x < n

@@ -1,4 +1,5 @@
--- The geometry of the eight steps. A step is taken as (i, j) with i - 1 rows down and j - 1 columns to the right, so that all numbers are natural.
+-- The geometry of the eight steps. A step is taken as (i, j) with i - 1 rows down and j - 1 columns to the right, so that all numbers are
+-- natural.
 use mathlib.Core.Path.{_≡_, refl, sym, _∙_, ap, ap₂, subst}
 use mathlib.Core.Bool.{Bool, true, false, cond, _&&_}
 use mathlib.Core.Logic.{_⊎_, inl, inr, ⊎-elim}
@@ -51,13 +52,19 @@ unfolding shift
 step-col = at-eight (λ p. (getD steps p (pos 0, pos 0)) .1 ≡ shift (right p)) refl refl refl refl refl refl refl refl
 
 pub down-small : (p : ℕ) → p < 8 → down p < 3
-down-small = at-eight (λ p. down p < 3) (omega arith) (omega arith) (omega arith) (omega arith) (omega arith) (omega arith) (omega arith) (omega arith)
+down-small =
+    at-eight (λ p. down p < 3) (omega arith) (omega arith) (omega arith) (omega arith) (omega arith) (omega arith) (omega arith)
+    (omega arith)
 
 pub right-small : (p : ℕ) → p < 8 → right p < 3
-right-small = at-eight (λ p. right p < 3) (omega arith) (omega arith) (omega arith) (omega arith) (omega arith) (omega arith) (omega arith) (omega arith)
+right-small =
+    at-eight (λ p. right p < 3) (omega arith) (omega arith) (omega arith) (omega arith) (omega arith) (omega arith) (omega arith)
+    (omega arith)
 
 pub opposite-small : (p : ℕ) → p < 8 → opposite p < 8
-opposite-small = at-eight (λ p. opposite p < 8) (omega arith) (omega arith) (omega arith) (omega arith) (omega arith) (omega arith) (omega arith) (omega arith)
+opposite-small =
+    at-eight (λ p. opposite p < 8) (omega arith) (omega arith) (omega arith) (omega arith) (omega arith) (omega arith) (omega arith)
+    (omega arith)
 
 pub opposite-opposite : (p : ℕ) → p < 8 → opposite (opposite p) ≡ p
 opposite-opposite = at-eight (λ p. opposite (opposite p) ≡ p) refl refl refl refl refl refl refl refl
@@ -70,7 +77,10 @@ opposite-right = at-eight (λ p. right (opposite p) ≡ 2 - right p) refl refl r
 
 -- a step is none that stays where it is, and tells its position
 pub steps-move : (p : ℕ) → p < 8 → (down p ≡ 1) × (right p ≡ 1) → ⊥
-steps-move = at-eight (λ p. (down p ≡ 1) × (right p ≡ 1) → ⊥) (λ w. let a = w .0 in omega arith) (λ w. let a = w .1 in omega arith) (λ w. let a = w .0 in omega arith) (λ w. let a = w .0 in omega arith) (λ w. let a = w .0 in omega arith) (λ w. let a = w .1 in omega arith) (λ w. let a = w .0 in omega arith) (λ w. let a = w .0 in omega arith)
+steps-move =
+    at-eight (λ p. (down p ≡ 1) × (right p ≡ 1) → ⊥) (λ w. let a = w .0 in omega arith) (λ w. let a = w .1 in omega arith)
+    (λ w. let a = w .0 in omega arith) (λ w. let a = w .0 in omega arith) (λ w. let a = w .0 in omega arith)
+    (λ w. let a = w .1 in omega arith) (λ w. let a = w .0 in omega arith) (λ w. let a = w .0 in omega arith)
 
 abbrev pub positionAtStep : ℕ → ℕ
 positionAtStep k = getD (6 ∷ 7 ∷ 0 ∷ 5 ∷ 8 ∷ 1 ∷ 4 ∷ 3 ∷ 2 ∷ []) k 8
@@ -115,9 +125,11 @@ cell-off g r q (inr b) = cond-false (r * g .cols + q) (size g) (and-false-right 
 
 -- ---- the neighbour at a position
 
-neighbour-of : (g : Grid) (c p : ℕ) → p < 8 → neighbour g c p ≡ cellAt g (moved (g .rows) (c / g .cols) (shift (down p))) (moved (g .cols) (c % g .cols) (shift (right p)))
+neighbour-of : (g : Grid) (c p : ℕ) → p < 8 →
+    neighbour g c p ≡ cellAt g (moved (g .rows) (c / g .cols) (shift (down p))) (moved (g .cols) (c % g .cols) (shift (right p)))
 unfolding neighbour
-neighbour-of g c p h = ap₂ (λ (a b : ℤ). cellAt g (moved (g .rows) (c / g .cols) a) (moved (g .cols) (c % g .cols) b)) (step-row p h) (step-col p h)
+neighbour-of g c p h =
+    ap₂ (λ (a b : ℤ). cellAt g (moved (g .rows) (c / g .cols) a) (moved (g .cols) (c % g .cols) b)) (step-row p h) (step-col p h)
 
 pub cols-positive : (g : Grid) (c : ℕ) → c < size g → 0 < g .cols
 cols-positive g c h = go (g .cols) h
@@ -147,13 +159,19 @@ module _ (g : Grid) (c p : ℕ) (hp : p < 8) where
       let d = s .left-most in
       let e = s .right-most in
       neighbour-of g c p hp
-      ∙ ap₂ (cellAt g) (moved-in (g .rows) (c / g .cols) (down p) (down-small p hp) a b) (moved-in (g .cols) (c % g .cols) (right p) (right-small p hp) d e)
+      ∙ ap₂ (cellAt g) (moved-in (g .rows) (c / g .cols) (down p) (down-small p hp) a b)
+      (moved-in (g .cols) (c % g .cols) (right p) (right-small p hp) d e)
       ∙ cell-in g (c / g .cols + down p - 1) (c % g .cols + right p - 1) (omega arith) (omega arith)
 
-  pub neighbour-off : (c / g .cols + down p < 1) ⊎ ((g .rows < c / g .cols + down p) ⊎ ((c % g .cols + right p < 1) ⊎ (g .cols < c % g .cols + right p))) → neighbour g c p ≡ size g
-  neighbour-off w = neighbour-of g c p hp ∙ cell-off g (moved (g .rows) (c / g .cols) (shift (down p))) (moved (g .cols) (c % g .cols) (shift (right p))) (go w)
+  pub neighbour-off : (c / g .cols + down p < 1)
+      ⊎ ((g .rows < c / g .cols + down p) ⊎ ((c % g .cols + right p < 1) ⊎ (g .cols < c % g .cols + right p))) → neighbour g c p ≡ size g
+  neighbour-off w =
+      neighbour-of g c p hp
+      ∙ cell-off g (moved (g .rows) (c / g .cols) (shift (down p))) (moved (g .cols) (c % g .cols) (shift (right p))) (go w)
     where
-      go : (c / g .cols + down p < 1) ⊎ ((g .rows < c / g .cols + down p) ⊎ ((c % g .cols + right p < 1) ⊎ (g .cols < c % g .cols + right p))) → (g .rows ≤ moved (g .rows) (c / g .cols) (shift (down p))) ⊎ (g .cols ≤ moved (g .cols) (c % g .cols) (shift (right p)))
+      go : (c / g .cols + down p < 1)
+          ⊎ ((g .rows < c / g .cols + down p) ⊎ ((c % g .cols + right p < 1) ⊎ (g .cols < c % g .cols + right p))) →
+          (g .rows ≤ moved (g .rows) (c / g .cols) (shift (down p))) ⊎ (g .cols ≤ moved (g .cols) (c % g .cols) (shift (right p)))
       go (inl a) = inl (moved-off (g .rows) (c / g .cols) (down p) (down-small p hp) (inl a))
       go (inr (inl a)) = inl (moved-off (g .rows) (c / g .cols) (down p) (down-small p hp) (inr a))
       go (inr (inr (inl a))) = inr (moved-off (g .cols) (c % g .cols) (right p) (right-small p hp) (inl a))
@@ -161,9 +179,12 @@ module _ (g : Grid) (c p : ℕ) (hp : p < 8) where
 
   -- either the step stays on the sheet, or it leads off it
   pub stays-or-off : Stays g c p ⊎ (neighbour g c p ≡ size g)
-  stays-or-off = go (decLe 1 (c / g .cols + down p)) (decLe (c / g .cols + down p) (g .rows)) (decLe 1 (c % g .cols + right p)) (decLe (c % g .cols + right p) (g .cols))
+  stays-or-off =
+      go (decLe 1 (c / g .cols + down p)) (decLe (c / g .cols + down p) (g .rows)) (decLe 1 (c % g .cols + right p))
+      (decLe (c % g .cols + right p) (g .cols))
     where
-      go : Dec (1 ≤ c / g .cols + down p) → Dec (c / g .cols + down p ≤ g .rows) → Dec (1 ≤ c % g .cols + right p) → Dec (c % g .cols + right p ≤ g .cols) → Stays g c p ⊎ (neighbour g c p ≡ size g)
+      go : Dec (1 ≤ c / g .cols + down p) → Dec (c / g .cols + down p ≤ g .rows) → Dec (1 ≤ c % g .cols + right p) →
+          Dec (c % g .cols + right p ≤ g .cols) → Stays g c p ⊎ (neighbour g c p ≡ size g)
       go (yes a) (yes b) (yes d) (yes e) = inl (record { low = a; high = b; left-most = d; right-most = e })
       go (no f) b d e = inr (neighbour-off (inl (omega arith)))
       go (yes a) (no f) d e = inr (neighbour-off (inr (inl (omega arith))))
@@ -174,10 +195,16 @@ module _ (g : Grid) (c p : ℕ) (hp : p < 8) where
   stays h = ⊎-elim (λ s. s) (λ e. let z : ⊥ = omega arith in absurd z) stays-or-off
 
   pub neighbour-row : Stays g c p → neighbour g c p / g .cols ≡ c / g .cols + down p - 1
-  neighbour-row s = let d = s .left-most in let e = s .right-most in ap (λ (x : ℕ). x / g .cols) (neighbour-in s) ∙ digits-div (c / g .cols + down p - 1) (omega arith)
+  neighbour-row s =
+      let d = s .left-most in
+      let e = s .right-most in
+      ap (λ (x : ℕ). x / g .cols) (neighbour-in s) ∙ digits-div (c / g .cols + down p - 1) (omega arith)
 
   pub neighbour-col : Stays g c p → neighbour g c p % g .cols ≡ c % g .cols + right p - 1
-  neighbour-col s = let d = s .left-most in let e = s .right-most in ap (λ (x : ℕ). x % g .cols) (neighbour-in s) ∙ digits-mod (c / g .cols + down p - 1) (omega arith)
+  neighbour-col s =
+      let d = s .left-most in
+      let e = s .right-most in
+      ap (λ (x : ℕ). x % g .cols) (neighbour-in s) ∙ digits-mod (c / g .cols + down p - 1) (omega arith)
 
   -- a step leads to a cell, or to size
   pub neighbour-on : Stays g c p → neighbour g c p < size g
@@ -211,14 +238,18 @@ module _ (g : Grid) (c p : ℕ) (hp : p < 8) where
       let j = right-small p hp in
       let od = opposite-down p hp in
       let or = opposite-right p hp in
-      let up : n / g .cols + down (opposite p) ≡ c / g .cols + 1 = back-digit (n / g .cols) (c / g .cols) (down p) (down (opposite p)) i a row od in
-      let over : n % g .cols + right (opposite p) ≡ c % g .cols + 1 = back-digit (n % g .cols) (c % g .cols) (right p) (right (opposite p)) j d col or in
-      neighbour-in' (opposite p) (opposite-small p hp) n (record { low = omega arith; high = omega arith; left-most = omega arith; right-most = omega arith })
+      let up : n / g .cols + down (opposite p) ≡ c / g .cols + 1 =
+      back-digit (n / g .cols) (c / g .cols) (down p) (down (opposite p)) i a row od in
+      let over : n % g .cols + right (opposite p) ≡ c % g .cols + 1 =
+      back-digit (n % g .cols) (c % g .cols) (right p) (right (opposite p)) j d col or in
+      neighbour-in' (opposite p) (opposite-small p hp) n
+      (record { low = omega arith; high = omega arith; left-most = omega arith; right-most = omega arith })
       ∙ ap₂ (λ (x y : ℕ). (x - 1) * g .cols + (y - 1)) up over
       ∙ ap₂ (λ (x y : ℕ). x * g .cols + y) (plus-minus (c / g .cols)) (plus-minus (c % g .cols))
       ∙ div-add-mod' c (g .cols)
     where
-      neighbour-in' : (q : ℕ) → q < 8 → (n : ℕ) → Stays g n q → neighbour g n q ≡ (n / g .cols + down q - 1) * g .cols + (n % g .cols + right q - 1)
+      neighbour-in' : (q : ℕ) → q < 8 → (n : ℕ) → Stays g n q →
+          neighbour g n q ≡ (n / g .cols + down q - 1) * g .cols + (n % g .cols + right q - 1)
       neighbour-in' q hq n s = Rattle.grid_laws.proofs.Neighbours.neighbour-in g n q hq s
 
 -- neighbours are mutual
@@ -238,12 +269,15 @@ west-lower g c = ⊎-elim (λ s. inl (go s)) inr (stays-or-off g c 5 (omega arit
         omega (arith, div-add-mod' c (g .cols))
 
 -- a cell within the border: its neighbours lie at fixed distances in the numbering
-pub inner-neighbour : (g : Grid) (c p : ℕ) → p < 8 → 1 ≤ c / g .cols → c / g .cols + 2 ≤ g .rows → 1 ≤ c % g .cols → c % g .cols + 2 ≤ g .cols → (neighbour g c p + (g .cols + 1) ≡ c + down p * g .cols + right p) × (neighbour g c p < size g)
+pub inner-neighbour : (g : Grid) (c p : ℕ) → p < 8 → 1 ≤ c / g .cols → c / g .cols + 2 ≤ g .rows → 1 ≤ c % g .cols →
+    c % g .cols + 2 ≤ g .cols → (neighbour g c p + (g .cols + 1) ≡ c + down p * g .cols + right p) × (neighbour g c p < size g)
 inner-neighbour g c p hp a b d e =
     let i = down-small p hp in
     let j = right-small p hp in
-    let s : Stays g c p = record { low = omega arith; high = omega arith; left-most = omega arith; right-most = omega arith } in
-    (rw (neighbour-in g c p hp s) (sum (g .cols) (c / g .cols) (down p) a ∙ omega (arith, div-add-mod' c (g .cols))), neighbour-on g c p hp s)
+    let s : Stays g c p = record { low = omega arith; high = omega arith; left-most = omega arith; right-most = omega arith } in (
+      rw (neighbour-in g c p hp s) (sum (g .cols) (c / g .cols) (down p) a ∙ omega (arith, div-add-mod' c (g .cols))),
+      neighbour-on g c p hp s,
+    )
   where
     row-sum : (k x d : ℕ) → 1 ≤ x → (x + d - 1) * k + k ≡ x * k + d * k
     row-sum k x d h =
@@ -267,8 +301,10 @@ pub position-unique : (g : Grid) (c p q : ℕ) → p < 8 → q < 8 → neighbour
 position-unique g c p q hp hq h e =
     let s = stays g c p hp h in
     let t = stays g c q hq (omega arith) in
-    let row : c / g .cols + down p - 1 ≡ c / g .cols + down q - 1 = sym (neighbour-row g c p hp s) ∙ ap (λ (x : ℕ). x / g .cols) e ∙ neighbour-row g c q hq t in
-    let col : c % g .cols + right p - 1 ≡ c % g .cols + right q - 1 = sym (neighbour-col g c p hp s) ∙ ap (λ (x : ℕ). x % g .cols) e ∙ neighbour-col g c q hq t in
+    let row : c / g .cols + down p - 1 ≡ c / g .cols + down q - 1 = sym (neighbour-row g c p hp s) ∙ ap (λ (x : ℕ). x / g .cols) e
+    ∙ neighbour-row g c q hq t in
+    let col : c % g .cols + right p - 1 ≡ c % g .cols + right q - 1 = sym (neighbour-col g c p hp s) ∙ ap (λ (x : ℕ). x % g .cols) e
+    ∙ neighbour-col g c q hq t in
     let a = s .low in
     let b = t .low in
     let k = s .left-most in

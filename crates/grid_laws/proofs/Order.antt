@@ -124,4 +124,6 @@ pub eq-eqZ : {a b : ℤ} → a ≡ b → eqZ a b ≡ true
 eq-eqZ {a} {b} e = subst (λ (z : ℤ). eqZ a z ≡ true) e (eqZ-refl a)
 
 pub eqZ-sym : (a b : ℤ) → eqZ a b ≡ eqZ b a
-eqZ-sym a b = Rattle.grid_laws.proofs.Tests.same-test (eqZ a b) (eqZ b a) (λ e. eq-eqZ (sym (eqZ-eq a b e))) (λ e. eq-eqZ (sym (eqZ-eq b a e)))
+eqZ-sym a b =
+    Rattle.grid_laws.proofs.Tests.same-test (eqZ a b) (eqZ b a) (λ e. eq-eqZ (sym (eqZ-eq a b e)))
+    (λ e. eq-eqZ (sym (eqZ-eq b a e)))

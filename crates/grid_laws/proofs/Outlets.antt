@@ -15,7 +15,8 @@ use Rattle.grid.specs.declared.Grid.{Grid}
 use Rattle.grid.specs.Below.{anyBelow}
 use Rattle.grid.specs.Sheet.{size, isData, neighbour}
 use Rattle.grid.specs.Outlet.{leavesAt, isOutlet}
-use Rattle.grid_laws.proofs.Tests.{test, and-true, and-left, and-right, and-rest-false, or-left, or-right, or-false, not-of-true, not-of-false, not-is-true}
+use Rattle.grid_laws.proofs.Tests.{test, and-true, and-left, and-right, and-rest-false, or-left, or-right, or-false, not-of-true}
+use Rattle.grid_laws.proofs.Tests.{not-of-false, not-is-true}
 use Rattle.grid_laws.proofs.Below.{any-of, some-of-any, no-of-any, any-ext}
 use Rattle.grid_laws.proofs.Cells.{off-no-data}
 use Rattle.grid_laws.proofs.Neighbours.{Stays, down, right, stays-or-off, neighbour-off, neighbour-on, cols-positive}
@@ -25,7 +26,8 @@ pub leaves-no-data : (g : Grid) (e : List ℤ) → length e ≡ size g → (c p 
 unfolding leavesAt
 leaves-no-data g e l c p = go (ℕ-discrete (neighbour g c p) (size g))
   where
-    go : Dec (neighbour g c p ≡ size g) → (eqb (neighbour g c p) (size g) || not (isData e (neighbour g c p))) ≡ not (isData e (neighbour g c p))
+    go : Dec (neighbour g c p ≡ size g) → (eqb (neighbour g c p) (size g) || not (isData e (neighbour g c p)))
+        ≡ not (isData e (neighbour g c p))
     go (yes q) = or-left _ (eq-eqb (neighbour g c p) (size g) q) ∙ sym (not-of-false (off-no-data e (neighbour g c p) (omega arith)))
     go (no f) = ap (λ (t : Bool). t || not (isData e (neighbour g c p))) (ne-eqb (neighbour g c p) (size g) f)
 
@@ -48,13 +50,20 @@ unfolding isOutlet
 inner-stays g e c p d o h = no-of-any 8 (leavesAt g e c) (and-rest-false (isData e c) (anyBelow 8 (leavesAt g e c)) d o) p h
 
 -- its eight neighbours are data cells, as long as every void and every border cell's side is open: the one place where that is used
-pub inner-data : (g : Grid) (e : List ℤ) → length e ≡ size g → (c p : ℕ) → isData e c ≡ true → isOutlet g e c ≡ false → p < 8 → isData e (neighbour g c p) ≡ true
-inner-data g e l c p d o h = Rattle.grid_laws.proofs.Tests.not-is-false (isData e (neighbour g c p)) (sym (leaves-no-data g e l c p) ∙ inner-stays g e c p d o h)
+pub inner-data : (g : Grid) (e : List ℤ) → length e ≡ size g → (c p : ℕ) → isData e c ≡ true → isOutlet g e c ≡ false → p < 8 →
+    isData e (neighbour g c p) ≡ true
+inner-data g e l c p d o h =
+    Rattle.grid_laws.proofs.Tests.not-is-false (isData e (neighbour g c p))
+    (sym (leaves-no-data g e l c p) ∙ inner-stays g e c p d o h)
 
 -- sheets with the same voids have the same outlets
-pub same-outlets : (g : Grid) (e f : List ℤ) → length e ≡ size g → length f ≡ size g → ((c : ℕ) → isData e c ≡ isData f c) → (c : ℕ) → isOutlet g e c ≡ isOutlet g f c
+pub same-outlets : (g : Grid) (e f : List ℤ) → length e ≡ size g → length f ≡ size g → ((c : ℕ) → isData e c ≡ isData f c) → (c : ℕ) →
+    isOutlet g e c ≡ isOutlet g f c
 unfolding isOutlet
-same-outlets g e f l m h c = ap₂ _&&_ (h c) (any-ext 8 (leavesAt g e c) (leavesAt g f c) (λ p k. leaves-no-data g e l c p ∙ ap not (h (neighbour g c p)) ∙ sym (leaves-no-data g f m c p)))
+same-outlets g e f l m h c =
+    ap₂ _&&_ (h c)
+    (any-ext 8 (leavesAt g e c) (leavesAt g f c)
+    (λ p k. leaves-no-data g e l c p ∙ ap not (h (neighbour g c p)) ∙ sym (leaves-no-data g f m c p)))
 
 -- ---- the words of document 01: "on the sheet's border or beside a void"
 
@@ -74,8 +83,11 @@ module _ (g : Grid) (e : List ℤ) (l : length e ≡ size g) (c : ℕ) where
   pub void-outlet : (p : ℕ) → p < 8 → isData e c ≡ true → isData e (neighbour g c p) ≡ false → isOutlet g e c ≡ true
   void-outlet p h d v = leaves-outlet g e c p d h (leaves-no-data g e l c p ∙ not-of-false v)
 
-  pub outlet-border-or-void : c < size g → isOutlet g e c ≡ true → Border g c ⊎ ((p : ℕ) × (p < 8) × (neighbour g c p < size g) × (isData e (neighbour g c p) ≡ false))
-  outlet-border-or-void hc o = let w = outlet-leaves g e c o in go (w .0) (w .1) (not-is-true _ (sym (leaves-no-data g e l c (w .0)) ∙ w .2)) (stays-or-off g c (w .0) (w .1))
+  pub outlet-border-or-void : c < size g → isOutlet g e c ≡ true →
+      Border g c ⊎ ((p : ℕ) × (p < 8) × (neighbour g c p < size g) × (isData e (neighbour g c p) ≡ false))
+  outlet-border-or-void hc o =
+      let w = outlet-leaves g e c o in
+      go (w .0) (w .1) (not-is-true _ (sym (leaves-no-data g e l c (w .0)) ∙ w .2)) (stays-or-off g c (w .0) (w .1))
     where
       row : c / g .cols < g .rows
       row = div-lt-iff-lt-mul (cols-positive g c hc) .1 hc
@@ -83,7 +95,8 @@ module _ (g : Grid) (e : List ℤ) (l : length e ≡ size g) (c : ℕ) where
       col : c % g .cols < g .cols
       col = mod-lt c (cols-positive g c hc)
 
-      edge : (p : ℕ) → p < 8 → neighbour g c p ≡ size g → Dec (c / g .cols ≡ 0) → Dec (c / g .cols + 1 ≡ g .rows) → Dec (c % g .cols ≡ 0) → Dec (c % g .cols + 1 ≡ g .cols) → Border g c
+      edge : (p : ℕ) → p < 8 → neighbour g c p ≡ size g → Dec (c / g .cols ≡ 0) → Dec (c / g .cols + 1 ≡ g .rows) → Dec (c % g .cols ≡ 0) →
+          Dec (c % g .cols + 1 ≡ g .cols) → Border g c
       edge p h q (yes x) b d f = inl x
       edge p h q (no a) (yes x) d f = inr (inl x)
       edge p h q (no a) (no b) (yes x) f = inr (inr (inl x))
@@ -97,6 +110,9 @@ module _ (g : Grid) (e : List ℤ) (l : length e ≡ size g) (c : ℕ) where
           let z : ⊥ = (let n = neighbour-on g c p h s in omega arith) in
           absurd z
 
-      go : (p : ℕ) → p < 8 → isData e (neighbour g c p) ≡ false → Stays g c p ⊎ (neighbour g c p ≡ size g) → Border g c ⊎ ((p : ℕ) × (p < 8) × (neighbour g c p < size g) × (isData e (neighbour g c p) ≡ false))
+      go : (p : ℕ) → p < 8 → isData e (neighbour g c p) ≡ false → Stays g c p ⊎ (neighbour g c p ≡ size g) →
+          Border g c ⊎ ((p : ℕ) × (p < 8) × (neighbour g c p < size g) × (isData e (neighbour g c p) ≡ false))
       go p h v (inl s) = inr (p, h, neighbour-on g c p h s, v)
-      go p h v (inr q) = inl (edge p h q (ℕ-discrete (c / g .cols) 0) (ℕ-discrete (c / g .cols + 1) (g .rows)) (ℕ-discrete (c % g .cols) 0) (ℕ-discrete (c % g .cols + 1) (g .cols)))
+      go p h v (inr q) =
+          inl (edge p h q (ℕ-discrete (c / g .cols) 0) (ℕ-discrete (c / g .cols + 1) (g .rows)) (ℕ-discrete (c % g .cols) 0)
+          (ℕ-discrete (c % g .cols + 1) (g .cols)))

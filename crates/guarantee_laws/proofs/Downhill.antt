@@ -84,7 +84,8 @@ module _ (g : Grid) (e f : List ℤ) (codes : List ℕ) (D : Downhill g e f code
   distinct c =
       let k = ends c .0 in
       let a = ends c .1 in
-      subst Distinct (sym (Routes.enough live next k (size g) c a (Routes.short live next (size g) on k c a))) (Routes.distinct live next k c a)
+      subst Distinct (sym (Routes.enough live next k (size g) c a (Routes.short live next (size g) on k c a)))
+      (Routes.distinct live next k c a)
 
   -- the route is itself a path to an outlet
   pub path : (c : ℕ) → DataCell e c → PathToOutlet g e c (route g codes c)

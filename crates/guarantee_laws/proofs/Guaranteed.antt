@@ -1,5 +1,6 @@
--- Demand 3, for codes that lead downhill on the lowest sheet that drains. A route's highest input elevation is at most the filled elevation of its first
--- cell, since the route never rises on that sheet; it is at least that, since the route is a path to an outlet and no path stays below.
+-- Demand 3, for codes that lead downhill on the lowest sheet that drains. A route's highest input elevation is at most the filled
+-- elevation of its first cell, since the route never rises on that sheet; it is at least that, since the route is a path to an outlet and
+-- no path stays below.
 use mathlib.Core.Path.{_≡_, refl, sym, _∙_, subst}
 use mathlib.Core.Bool.{Bool, true, false, not, _&&_}
 use mathlib.Core.List.{List, [], _∷_}
@@ -35,7 +36,8 @@ module _ (g : Grid) (e f : List ℤ) (codes : List ℕ) (L : LowestDrained g e f
   pub highest-is-filled : (c : ℕ) → DataCell e c → highest e (route g codes c) ≡ at f c
   highest-is-filled c d =
       let p = Route.path g e f codes D c d in
-      ≤ℤ-antisym (highest-≤ g e f (L .drained .above) c (route g codes c) p (Route.never-rises g e f codes D c d)) (L .below-paths c (route g codes c) p)
+      ≤ℤ-antisym (highest-≤ g e f (L .drained .above) c (route g codes c) p (Route.never-rises g e f codes D c d))
+      (L .below-paths c (route g codes c) p)
 
   -- "no chain of data cells to an outlet has a lower one"
   pub none-lower : (c : ℕ) → DataCell e c → (other : List ℕ) → PathToOutlet g e c other → highest e (route g codes c) ≤ℤ highest e other

@@ -1,5 +1,5 @@
--- Demand 3 for the four results of the one call: on the filled sheet the directions lead downhill. So nothing that a separate call could ask later
--- (10 to 12) is ever answered by no: every data cell has a level, every code is one of the eight or 0, every route ends.
+-- Demand 3 for the four results of the one call: on the filled sheet the directions lead downhill. So nothing that a separate call could
+-- ask later (10 to 12) is ever answered by no: every data cell has a level, every code is one of the eight or 0, every route ends.
 use mathlib.Core.Path.{_≡_, refl, sym, _∙_, ap, subst}
 use mathlib.Core.Bool.{Bool, true, false, not, _&&_}
 use mathlib.Core.Logic.{_⊎_, inl, inr, ⊎-elim}
@@ -19,7 +19,8 @@ use Rattle.grid.specs.Fill.{filled}
 use Rattle.grid.specs.Directions.{levels, directions, firstUnlevelled}
 use Rattle.grid.specs.Routes.{positionAt, hasCode, receiver, routeEnds, firstBadCode, firstEndless, counts, labels}
 use Rattle.grid.specs.Guarantee.{DrainedSheet, Guarantee}
-use Rattle.grid_laws.proofs.Tests.{test, T-true, true-T, true-false, not-true-false, not-false-true, not-of-true, and-false-left, and-false-right}
+use Rattle.grid_laws.proofs.Tests.{test, T-true, true-T, true-false, not-true-false, not-false-true, not-of-true, and-false-left}
+use Rattle.grid_laws.proofs.Tests.{and-false-right}
 use Rattle.grid_laws.proofs.Below.{first-none}
 use Rattle.grid_laws.proofs.Order.{≤ℤ-not-<}
 use Rattle.grid_laws.proofs.Cells.{InRange, on-sheet}
@@ -137,4 +138,5 @@ module _ (g : Grid) (e : List ℤ) (cells-e : length e ≡ size g) (range : InRa
   unfolding firstEndless
   all-end =
       first-none (size g) (λ c. not (routeEnds g codes c))
-      (λ c h. not-of-true (ends-test (hasCode codes) (receiver g codes) (size g) (on g e f codes downhill) c (ends g e f codes downhill c)))
+      (λ c h. not-of-true
+      (ends-test (hasCode codes) (receiver g codes) (size g) (on g e f codes downhill) c (ends g e f codes downhill c)))

@@ -1,5 +1,5 @@
--- What demand 3 admits: no other sheet than the filled one ("filled to its highest border" is rejected, and so is a copy of the input), and at data cells
--- no other counts and labels than those of the codes.
+-- What demand 3 admits: no other sheet than the filled one ("filled to its highest border" is rejected, and so is a copy of the input),
+-- and at data cells no other counts and labels than those of the codes.
 use mathlib.Core.Path.{_≡_, refl, sym, _∙_, ap}
 use mathlib.Core.Bool.{Bool, true, false}
 use mathlib.Core.Logic.{⊎-elim}
@@ -27,14 +27,17 @@ module _ (g : Grid) (e : List ℤ) (cells-e : length e ≡ size g) (range : InRa
   only-filled f codes a l G =
       ext-getD void f (filled g e) (G .drained .cells ∙ sym (filled-length g e))
       (λ c h. ⊎-elim
-      (λ d. ≤ℤ-antisym (G .lowest (filled g e) (filled-drained g e cells-e range) c (true-T d)) (filled-least g e cells-e range f (G .drained) c (true-T d)))
+      (λ d. ≤ℤ-antisym (G .lowest (filled g e) (filled-drained g e cells-e range) c (true-T d))
+      (filled-least g e cells-e range f (G .drained) c (true-T d)))
       (λ n. let on : c < size g = omega (arith, G .drained .cells) in
       no-data-void f c (G .drained .voids c on ∙ n) ∙ sym (filled-voids g e cells-e range c n))
       (test (isData e c)))
 
-  pub only-counts : (f : List ℤ) (codes a l : List ℕ) → Guarantee g e f codes a l → (c : ℕ) → DataCell e c → getD a c 0 ≡ getD (counts g codes) c 0
+  pub only-counts : (f : List ℤ) (codes a l : List ℕ) → Guarantee g e f codes a l → (c : ℕ) → DataCell e c →
+      getD a c 0 ≡ getD (counts g codes) c 0
   unfolding counts countAt
-  only-counts f codes a l G c d = G .counted c d ∙ sym (at-table (size g) (countAt g codes) c 0 (on-sheet g e cells-e c (T-true (isData e c) d)))
+  only-counts f codes a l G c d =
+      G .counted c d ∙ sym (at-table (size g) (countAt g codes) c 0 (on-sheet g e cells-e c (T-true (isData e c) d)))
 
   pub only-labels : (f : List ℤ) (codes a l : List ℕ) → Guarantee g e f codes a l → (c : ℕ) → DataCell e c
       → getD l c 0 ≡ lastOf (route g codes c) (size g) + 1

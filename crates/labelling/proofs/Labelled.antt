@@ -22,7 +22,8 @@ FilledTo f i l = (c : ℕ) → c < i → getD l c 0 ≡ f c
 
 pub filled-more : (f : ℕ → ℕ) (i : ℕ) (l : List ℕ) (v : ℕ) → i < length l → FilledTo f i l → v ≡ f i → FilledTo f (i + 1) (set l i v)
 filled-more f i l v h F e =
-    below-more (λ c. getD (set l i v) c 0 ≡ f c) i (λ c k. getD-set-other l i c v 0 (λ q. let z : ⊥ = omega arith in z) ∙ F c k) (getD-set-same l i v 0 h ∙ e)
+    below-more (λ c. getD (set l i v) c 0 ≡ f c) i (λ c k. getD-set-other l i c v 0 (λ q. let z : ⊥ = omega arith in z) ∙ F c k)
+    (getD-set-same l i v 0 h ∙ e)
 
 -- ---- question 12
 pub first-within : (n : ℕ) (t₀ t₁ : List ℕ) (r : ℕ) → Walked n t₀ t₁ r → r ≤ n
@@ -38,7 +39,8 @@ module _ (n : ℕ) (t₀ t₁ labels₀ : List ℕ) (r : ℕ) (W : Walked n t₀
 
   -- what stands at each place
   at-walked : r ≡ n → (c : ℕ) → c < n → getD t₁ c 0 ≡ n + 1 + lastMark (liveAt n t₀) (nextAt n t₀) n c
-  at-walked e c h = ap (λ (l : List ℕ). getD l c 0) (W .lasts e) ∙ at-front n (λ c. n + 1 + lastMark (liveAt n t₀) (nextAt n t₀) n c) (drop n t₀) c h
+  at-walked e c h =
+      ap (λ (l : List ℕ). getD l c 0) (W .lasts e) ∙ at-front n (λ c. n + 1 + lastMark (liveAt n t₀) (nextAt n t₀) n c) (drop n t₀) c h
 
   pub raised : r ≡ n → (c : ℕ) → c < n → n + 1 ≤ getD t₁ c 0
   raised e c h = rw (at-walked e c h) (omega arith)
@@ -48,7 +50,8 @@ module _ (n : ℕ) (t₀ t₁ labels₀ : List ℕ) (r : ℕ) (W : Walked n t₀
       record {
         first = W .first;
         result = q
-            ∙ table-ext n (λ c. getD t₁ c 0 - (n + 1)) (lastMark (liveAt n t₀) (nextAt n t₀) n) (λ c h. less (getD t₁ c 0) (lastMark (liveAt n t₀) (nextAt n t₀) n c) (at-walked e c h))
+            ∙ table-ext n (λ c. getD t₁ c 0 - (n + 1)) (lastMark (liveAt n t₀) (nextAt n t₀) n)
+            (λ c h. less (getD t₁ c 0) (lastMark (liveAt n t₀) (nextAt n t₀) n c) (at-walked e c h))
             ∙ sym (cond-true _ _ (eq-eqb r n e));
       }
     where

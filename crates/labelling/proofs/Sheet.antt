@@ -26,7 +26,8 @@ module _ (g : Grid) (codes rest t₁ : List ℕ) (long : length codes ≡ size g
 
   -- question 12's cell
   pub first-endless : firstUnending (liveAt (size g) t₁) (nextAt (size g) t₁) (size g) ≡ firstEndless g codes
-  first-endless = ap (λ (l : List ℕ). firstUnending (liveIn (size g) l) (nextIn (size g) l) (size g)) front ∙ sym (first-endless-is g codes long)
+  first-endless =
+      ap (λ (l : List ℕ). firstUnending (liveIn (size g) l) (nextIn (size g) l) (size g)) front ∙ sym (first-endless-is g codes long)
 
   -- the labels
   labels-are : table (size g) (lastMark (liveAt (size g) t₁) (nextAt (size g) t₁) (size g)) ≡ labels g codes
@@ -35,5 +36,7 @@ module _ (g : Grid) (codes rest t₁ : List ℕ) (long : length codes ≡ size g
       table-ext (size g) (lastMark (liveAt (size g) t₁) (nextAt (size g) t₁) (size g)) (labelAt g codes)
       (λ c h. ap (λ (l : List ℕ). lastMark (liveIn (size g) l) (nextIn (size g) l) (size g) c) front ∙ sym (label-is g codes long c))
 
-  pub sheet-labels : (labels₀ labels₁ : List ℕ) (r : ℕ) → LabelsOf (size g) t₁ labels₀ labels₁ r → (r ≡ firstEndless g codes) × (labels₁ ≡ cond (eqb r (size g)) (labels g codes) labels₀)
-  sheet-labels labels₀ labels₁ r L = (L .first ∙ first-endless, L .result ∙ ap (λ (l : List ℕ). cond (eqb r (size g)) l labels₀) labels-are)
+  pub sheet-labels : (labels₀ labels₁ : List ℕ) (r : ℕ) → LabelsOf (size g) t₁ labels₀ labels₁ r →
+      (r ≡ firstEndless g codes) × (labels₁ ≡ cond (eqb r (size g)) (labels g codes) labels₀)
+  sheet-labels labels₀ labels₁ r L =
+      (L .first ∙ first-endless, L .result ∙ ap (λ (l : List ℕ). cond (eqb r (size g)) l labels₀) labels-are)

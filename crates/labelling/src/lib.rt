@@ -1,6 +1,6 @@
-// Labels from the marks at the front of a lent tail (`route_laws`, `specs/Receivers`), written to the result only when question 12 is answered: "A no
-// changes no result buffer". The labels call and the one call share this. The walk (crate `walk`) leaves each label raised by n + 1 in place of the
-// mark; what is left is to take that off again.
+// Labels from the marks at the front of a lent tail (`route_laws`, `specs/Receivers`), written to the result only when question 12 is
+// answered: "A no changes no result buffer". The labels call and the one call share this. The walk (crate `walk`) leaves each label raised
+// by n + 1 in place of the mark; what is left is to take that off again.
 ghost use mathlib.Core.Path.{_≡_};
 ghost use Prim.Native.Nat.{ℕ, _+_, _-_, _<_, _≤_, _^_};
 ghost use lib.ListN.{length, getD, take};

@@ -1,6 +1,6 @@
-// The call `labels` of document 01: from a sheet of codes, of each cell "1 plus the number of the route's last cell". Questions 5 to 9, then 11 and 12.
-// The receivers of the codes go into the second half of the work buffer, where one walk down the routes finds their last cells (crates `receivers`,
-// `labelling`). The result is written when the last question is answered.
+// The call `labels` of document 01: from a sheet of codes, of each cell "1 plus the number of the route's last cell". Questions 5 to 9,
+// then 11 and 12. The receivers of the codes go into the second half of the work buffer, where one walk down the routes finds their last
+// cells (crates `receivers`, `labelling`). The result is written when the last question is answered.
 use grid::Answer;
 use grid::Grid;
 ghost use mathlib.Core.Path.{_≡_};
@@ -45,7 +45,8 @@ pub fn labels_into(g: Grid, codes: &[u8], labels: &mut [u32], work: &mut [u32]) 
 
 // Codes to labels.
 pub fn labels(g: Grid, codes: &[u8], labels: &mut [u32], work: &mut [u32]) -> Answer
-    ensures { λ r. ⌜ LabelsPromise g (now (codes .entry)) (now (labels .entry)) (now (labels .exit)) (now (work .entry)) (now (work .exit)) r ⌝ }
+    ensures { λ r. ⌜ LabelsPromise g (now (codes .entry)) (now (labels .entry)) (now (labels .exit)) (now (work .entry)) (now (work .exit))
+        r ⌝ }
 {
     let given = codes.len();
     let wanted = labels.len();

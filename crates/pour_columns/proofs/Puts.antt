@@ -21,7 +21,8 @@ module _ {A : Type 0} (d : A) (place : ℕ) (value : ℕ → A) {old : List A} w
       nothing : (i : ℕ) → i < 0 → ⊥
       nothing i h = omega arith
 
-  pub put-more : (i : ℕ) (v : A) (list : List A) → place + i < length list → v ≡ value i → Put d i place value old list → Put d (i + 1) place value old (set list (place + i) v)
+  pub put-more : (i : ℕ) (v : A) (list : List A) → place + i < length list → v ≡ value i → Put d i place value old list →
+      Put d (i + 1) place value old (set list (place + i) v)
   put-more i v list h e p =
       record {
         long = length-set list (place + i) v ∙ p .long;
@@ -31,7 +32,8 @@ module _ {A : Type 0} (d : A) (place : ℕ) (value : ℕ → A) {old : List A} w
       }
     where
       written : (j : ℕ) → j < i + 1 → Dec (j ≡ i) → getD (set list (place + i) v) (place + j) d ≡ value j
-      written j l (yes q) = subst (λ (k : ℕ). getD (set list (place + i) v) (place + k) d ≡ value k) (sym q) (getD-set-same list (place + i) v d h ∙ e)
+      written j l (yes q) =
+          subst (λ (k : ℕ). getD (set list (place + i) v) (place + k) d ≡ value k) (sym q) (getD-set-same list (place + i) v d h ∙ e)
       written j l (no q) = getD-set-other list (place + i) (place + j) v d (λ r. q (omega arith)) ∙ p .written j (apart j q l)
         where
           apart : (k : ℕ) → (k ≡ i → ⊥) → k < i + 1 → k < i
@@ -41,7 +43,8 @@ module _ {A : Type 0} (d : A) (place : ℕ) (value : ℕ → A) {old : List A} w
   put-end i k {list} q p = subst (λ (j : ℕ). Put d j place value old list) q p
 
 -- columns that keep their lengths
-pub still-one : {l : List Entry} {n : ℕ} {s₀ s₁ l₀ l₁ c₀ c₁ : List ℕ} {e₀ e₁ : List ℤ} → ColumnsTo l n s₀ s₁ l₀ l₁ e₀ e₁ c₀ c₁ → OneLength s₀ l₀ e₀ c₀ → OneLength s₁ l₁ e₁ c₁
+pub still-one : {l : List Entry} {n : ℕ} {s₀ s₁ l₀ l₁ c₀ c₁ : List ℕ} {e₀ e₁ : List ℤ} → ColumnsTo l n s₀ s₁ l₀ l₁ e₀ e₁ c₀ c₁ →
+    OneLength s₀ l₀ e₀ c₀ → OneLength s₁ l₁ e₁ c₁
 still-one w o =
     record {
       larger = w .larger .long ∙ o .larger ∙ sym (w .smaller .long);

@@ -71,7 +71,8 @@ fn put_elevations(words: &[u64; CAPACITY], k: usize, place: usize, column: &mut 
     requires { ⌜ length (now words) ≡ capacity ⌝ }
     requires { ⌜ k ≤ capacity ⌝ }
     requires { ⌜ place + k ≤ length (now column) ⌝ }
-    ensures { λ r. ⌜ Put (pos 0) k place (λ i. levelOf (getD (now (words .entry)) i 0 / 16777216 % 65536)) (now (column .entry)) (now (column .exit)) ⌝ }
+    ensures { λ r. ⌜ Put (pos 0) k place (λ i. levelOf (getD (now (words .entry)) i 0 / 16777216 % 65536)) (now (column .entry))
+        (now (column .exit)) ⌝ }
 {
     let mut i: usize = 0;
     while i < k {
@@ -94,7 +95,9 @@ pub fn put_entries(
     requires { ⌜ Room k (now pairs) (now ranks) ⌝ }
     requires { ⌜ place + k ≤ length (now smaller) ⌝ }
     requires { ⌜ OneLength (now smaller) (now larger) (now elevation) (now cell) ⌝ }
-    ensures { λ r. ⌜ Puts k place (now (pairs .entry)) (now (ranks .entry)) (now (smaller .entry)) (now (smaller .exit)) (now (larger .entry)) (now (larger .exit)) (now (elevation .entry)) (now (elevation .exit)) (now (cell .entry)) (now (cell .exit)) ⌝ }
+    ensures { λ r. ⌜ Puts k place (now (pairs .entry)) (now (ranks .entry)) (now (smaller .entry)) (now (smaller .exit))
+        (now (larger .entry)) (now (larger .exit)) (now (elevation .entry)) (now (elevation .exit)) (now (cell .entry)) (now (cell .exit))
+        ⌝ }
 {
     put_digits(pairs, k, place, 4294967296, 4294967296, smaller);
     put_digits(pairs, k, place, 1, 4294967296, larger);
@@ -124,8 +127,10 @@ fn write_next(
     requires { ⌜ OneLength (now smaller) (now larger) (now elevation) (now cell) ⌝ }
     requires { ⌜ length (pourPoints g (now elevations) (now labels)) ≤ length (now smaller) ⌝ }
     ensures { λ r. ⌜ Room r (now (pairs .exit)) (now (ranks .exit)) ⌝ }
-    ensures { λ r. ⌜ Batch capacity limit (lines g (now (elevations .entry)) (now (labels .entry)) (g .rows)) r (now (pairs .exit)) (now (ranks .exit)) ⌝ }
-    ensures { λ r. ⌜ Puts r n (now (pairs .exit)) (now (ranks .exit)) (now (smaller .entry)) (now (smaller .exit)) (now (larger .entry)) (now (larger .exit)) (now (elevation .entry)) (now (elevation .exit)) (now (cell .entry)) (now (cell .exit)) ⌝ }
+    ensures { λ r. ⌜ Batch capacity limit (lines g (now (elevations .entry)) (now (labels .entry)) (g .rows)) r (now (pairs .exit))
+        (now (ranks .exit)) ⌝ }
+    ensures { λ r. ⌜ Puts r n (now (pairs .exit)) (now (ranks .exit)) (now (smaller .entry)) (now (smaller .exit)) (now (larger .entry))
+        (now (larger .exit)) (now (elevation .entry)) (now (elevation .exit)) (now (cell .entry)) (now (cell .exit)) ⌝ }
 {
     let k = pour::scan(g, elevations, labels, limit, pairs, ranks);
     put_entries(pairs, ranks, k, n, smaller, larger, elevation, cell);
@@ -150,7 +155,9 @@ pub fn write_all(
     requires { ⌜ length (now elevations) ≡ size g ⌝ }
     requires { ⌜ OneLength (now smaller) (now larger) (now elevation) (now cell) ⌝ }
     requires { ⌜ length (pourPoints g (now elevations) (now labels)) ≤ length (now smaller) ⌝ }
-    ensures { λ r. ⌜ Written (pourPoints g (now (elevations .entry)) (now (labels .entry))) (now (smaller .entry)) (now (smaller .exit)) (now (larger .entry)) (now (larger .exit)) (now (elevation .entry)) (now (elevation .exit)) (now (cell .entry)) (now (cell .exit)) ⌝ }
+    ensures { λ r. ⌜ Written (pourPoints g (now (elevations .entry)) (now (labels .entry))) (now (smaller .entry)) (now (smaller .exit))
+        (now (larger .entry)) (now (larger .exit)) (now (elevation .entry)) (now (elevation .exit)) (now (cell .entry)) (now (cell .exit))
+        ⌝ }
 {
     let mut limit: u64 = 0;
     let mut n: usize = 0;

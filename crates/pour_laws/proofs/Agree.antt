@@ -53,7 +53,8 @@ reached-none seen l f w = record { within = omega arith; passed = λ i h. absurd
         let e = z .2 .1 in
         omega arith
 
-module _ {B limit n done : ℕ} {seen l : List Entry} {pairs ranks : List ℕ} (b : Batch B limit seen n pairs ranks) (w : Whole seen l) (r : Reached l limit done) where
+module _ {B limit n done : ℕ} {seen l : List Entry} {pairs ranks : List ℕ} (b : Batch B limit seen n pairs ranks) (w : Whole seen l)
+    (r : Reached l limit done) where
   abbrev Same : ℕ → Type 0
   Same j = (done + j < length l) × (getD (pairsOf l) (done + j) 0 ≡ getD pairs j 0)
 
@@ -61,7 +62,8 @@ module _ {B limit n done : ℕ} {seen l : List Entry} {pairs ranks : List ℕ} (
   rises = rising-to (pairsOf l) (length l) (rising-at l (w .rising))
 
   -- the entry of the pair at place j
-  entry-of : (j : ℕ) → j < n → (i : ℕ) × (done ≤ i) × (i < length l) × (getD (pairsOf l) i 0 ≡ getD pairs j 0) × (getD (ranksOf l) i 0 ≤ getD ranks j 0)
+  entry-of : (j : ℕ) → j < n → (i : ℕ) × (done ≤ i) × (i < length l) × (getD (pairsOf l) i 0 ≡ getD pairs j 0)
+      × (getD (ranksOf l) i 0 ≤ getD ranks j 0)
   entry-of j h =
       let f = b .from j h in
       let y = w .all (f .0) (f .1) in
@@ -123,7 +125,10 @@ module _ {B limit n done : ℕ} {seen l : List Entry} {pairs ranks : List ℕ} (
       long = let p = at-most in let q = x .2 in omega arith
 
       no-more : getD (pairsOf l) (done + j) 0 ≤ getD pairs j 0
-      no-more = let e = x .3 in let q = rising-le (pairsOf l) (length l) (rising-at l (w .rising)) (done + j) (x .0) at-most (x .2) in omega arith
+      no-more =
+          let e = x .3 in
+          let q = rising-le (pairsOf l) (length l) (rising-at l (w .rising)) (done + j) (x .0) at-most (x .2) in
+          omega arith
 
       go : ((i : ℕ) × (i < n) × (getD pairs i 0 ≡ getD (pairsOf l) (done + j) 0) × (getD ranks i 0 ≤ getD (ranksOf l) (done + j) 0))
           ⊎ ((n ≡ B) × (getD pairs (B - 1) 0 < getD (pairsOf l) (done + j) 0))
@@ -193,7 +198,8 @@ module _ {B limit n done : ℕ} {seen l : List Entry} {pairs ranks : List ℕ} (
         where
           here : Dec (v .0 < j) → Dec (j < v .0) → getD ranks j 0 ≤ getD (ranksOf l) (done + j) 0
           here (yes p) q = let u = rising-to pairs n (b .rising) (v .0) j p h in let s = same j h .1 in let e = v .2 in omega arith
-          here (no p) (yes q) = let u = rising-to pairs n (b .rising) j (v .0) q (v .1) in let s = same j h .1 in let e = v .2 in omega arith
+          here (no p) (yes q) =
+              let u = rising-to pairs n (b .rising) j (v .0) q (v .1) in let s = same j h .1 in let e = v .2 in omega arith
           here (no p) (no q) = let e : v .0 ≡ j = omega arith in subst (λ (m : ℕ). getD ranks m 0 ≤ getD (ranksOf l) (done + j) 0) e (v .3)
 
   pub next-within : done + n ≤ length l
@@ -213,7 +219,12 @@ module _ {B limit n done : ℕ} {seen l : List Entry} {pairs ranks : List ℕ} (
         where
           out : ((i : ℕ) × (i < n) × (getD pairs i 0 ≡ getD (pairsOf l) (done + n) 0) × (getD ranks i 0 ≤ getD (ranksOf l) (done + n) 0))
               ⊎ ((n ≡ B) × (getD pairs (B - 1) 0 < getD (pairsOf l) (done + n) 0)) → ⊥
-          out (inl v) = let k = v .1 in let e = v .2 in let s = same (v .0) (v .1) .1 in let u = rises (done + v .0) (done + n) (omega arith) p in omega arith
+          out (inl v) =
+              let k = v .1 in
+              let e = v .2 in
+              let s = same (v .0) (v .1) .1 in
+              let u = rises (done + v .0) (done + n) (omega arith) p in
+              omega arith
           out (inr v) = let e = v .0 in omega arith
 
   -- after a full one the entries go on above its last pair
@@ -226,7 +237,8 @@ module _ {B limit n done : ℕ} {seen l : List Entry} {pairs ranks : List ℕ} (
       passed : (i : ℕ) → i < done + n → getD (pairsOf l) i 0 ≤ getD pairs (B - 1) 0
       passed i k =
           let s = last in
-          let u = rising-le (pairsOf l) (length l) (rising-at l (w .rising)) i (done + (B - 1)) (omega arith) (let q = next-within in omega arith) in
+          let u = rising-le (pairsOf l) (length l) (rising-at l (w .rising)) i (done + (B - 1)) (omega arith) (let q = next-within in
+          omega arith) in
           omega arith
 
       ahead : (i : ℕ) → done + n ≤ i → i < length l → getD pairs (B - 1) 0 < getD (pairsOf l) i 0

@@ -84,8 +84,10 @@ module _ {A : Type 0} (d : A) (values entry : List A) where
           let e : done + (i - done) ≡ i = omega arith in
           subst (λ (j : ℕ). getD column₁ j d ≡ getD values j d) e (p .written (i - done) (omega arith) ∙ sym (v (i - done) (omega arith)))
 
-  pub column-end : {done : ℕ} {column : List A} → done ≡ length values → length values ≤ length entry → ColumnTo d values done entry column → column ≡ values ++ drop (length values) entry
-  column-end {done} {column} q h c = ext-getD d column (values ++ drop (length values) entry) same-length (λ i l. at i (decLt i (length values)))
+  pub column-end : {done : ℕ} {column : List A} → done ≡ length values → length values ≤ length entry →
+      ColumnTo d values done entry column → column ≡ values ++ drop (length values) entry
+  column-end {done} {column} q h c =
+      ext-getD d column (values ++ drop (length values) entry) same-length (λ i l. at i (decLt i (length values)))
     where
       same-length : length column ≡ length (values ++ drop (length values) entry)
       same-length =
@@ -117,7 +119,8 @@ module _ (g : Grid) (e : List ℤ) (labels : List ℕ) (long : length e ≡ size
         last = λ h. let z : ⊥ = omega arith in absurd z;
       }
 
-  module _ {limit n k m : ℕ} {pairs ranks : List ℕ} (w : Between g e labels limit n k) (q : k ≡ capacity) (b : Batch capacity limit (lines g e labels (g .rows)) m pairs ranks) where
+  module _ {limit n k m : ℕ} {pairs ranks : List ℕ} (w : Between g e labels limit n k) (q : k ≡ capacity)
+      (b : Batch capacity limit (lines g e labels (g .rows)) m pairs ranks) where
     all-fit : AllFit (lines g e labels (g .rows))
     all-fit = b .fit
 
@@ -143,12 +146,14 @@ module _ (g : Grid) (e : List ℤ) (labels : List ℕ) (long : length e ≡ size
     fits-entry x i = all-fit x (entries-are .from x i)
 
     module _ {A : Type 0} (d : A) (field : Entry → A) (value : ℕ → A) where
-      of-pair : ((x : Entry) → Fits x → field x ≡ value (pairOf x)) → (i : ℕ) → i < m → getD (map field entries) (n + i) d ≡ value (getD pairs i 0)
+      of-pair : ((x : Entry) → Fits x → field x ≡ value (pairOf x)) → (i : ℕ) → i < m →
+          getD (map field entries) (n + i) d ≡ value (getD pairs i 0)
       of-pair f i h =
           field-at d field (λ x. pairOf x) value entries (λ x a. f x (fits-entry x a)) (n + i) (let l = scan-within in omega arith)
           ∙ ap value (pair-agrees b entries-are reached i h)
 
-      of-rank : ((x : Entry) → Fits x → field x ≡ value (rankOf x)) → (i : ℕ) → i < m → getD (map field entries) (n + i) d ≡ value (getD ranks i 0)
+      of-rank : ((x : Entry) → Fits x → field x ≡ value (rankOf x)) → (i : ℕ) → i < m →
+          getD (map field entries) (n + i) d ≡ value (getD ranks i 0)
       of-rank f i h =
           field-at d field (λ x. rankOf x) value entries (λ x a. f x (fits-entry x a)) (n + i) (let l = scan-within in omega arith)
           ∙ ap value (rank-agrees b entries-are reached i h)
@@ -173,7 +178,8 @@ module _ (g : Grid) (e : List ℤ) (labels : List ℕ) (long : length e ≡ size
         → ColumnTo (pos 0) (map (λ x. x .elevation) entries) n entry column
         → ColumnTo (pos 0) (map (λ x. x .elevation) entries) (n + m) entry column₁
     elevation-more {entry} p c =
-        column-more (pos 0) (map (λ x. x .elevation) entries) entry (of-rank (pos 0) (λ x. x .elevation) (λ z. levelOf (z / 16777216 % 65536)) elevation-of) p c
+        column-more (pos 0) (map (λ x. x .elevation) entries) entry
+        (of-rank (pos 0) (λ x. x .elevation) (λ z. levelOf (z / 16777216 % 65536)) elevation-of) p c
 
     pub cell-more : {entry column column₁ : List ℕ}
         → Put 0 m n (λ i. getD ranks i 0 / 1 % 16777216) column column₁
@@ -234,7 +240,9 @@ module _ (l : List Entry) {s₀ l₀ c₀ : List ℕ} {e₀ : List ℤ} where
       no : Settled l s₀ s₀ l₀ l₀ e₀ e₀ c₀ c₀ (noRoom n)
       no =
           record {
-            answer = sym (ap (λ (t : Bool). ask t (refusal 14 (length l)) accepted) (lt-leb (length l) (length s₀) (omega arith)) ∙ ap (refusal 14) (sym q));
+            answer =
+                sym (ap (λ (t : Bool). ask t (refusal 14 (length l)) accepted) (lt-leb (length l) (length s₀) (omega arith))
+                ∙ ap (refusal 14) (sym q));
             count = refl;
             smaller = refl;
             larger = refl;
@@ -262,11 +270,13 @@ module _ (l : List Entry) {s₀ l₀ c₀ : List ℕ} {e₀ : List ℤ} where
           }
 
 -- ---- where one batch has all entries
-module _ (g : Grid) (e : List ℤ) (labels : List ℕ) (long : length e ≡ size g) {m : ℕ} {pairs ranks : List ℕ} (b : Batch capacity 0 (lines g e labels (g .rows)) m pairs ranks) where
+module _ (g : Grid) (e : List ℤ) (labels : List ℕ) (long : length e ≡ size g) {m : ℕ} {pairs ranks : List ℕ}
+    (b : Batch capacity 0 (lines g e labels (g .rows)) m pairs ranks) where
   pub first-batch : m ≤ capacity → Between g e labels (getD pairs 16383 0) m m
   first-batch h =
       let q : 0 + m ≡ m = omega arith in
-      subst (λ (n : ℕ). Between g e labels (getD pairs 16383 0) n m) q (between-more g e labels long (between-none g e labels long capacity refl) refl b h refl)
+      subst (λ (n : ℕ). Between g e labels (getD pairs 16383 0) n m) q
+      (between-more g e labels long (between-none g e labels long capacity refl) refl b h refl)
 
   pub few-are : m < capacity → m ≡ length (pourPoints g e labels)
   few-are h = (first-batch (omega arith)) .last h
@@ -280,4 +290,5 @@ module _ (g : Grid) (e : List ℤ) (labels : List ℕ) (long : length e ≡ size
   few-written h k o p =
       let q = few-are h in
       let z : 0 + m ≡ length (pourPoints g e labels) = omega arith in
-      columns-whole (pourPoints g e labels) z (omega arith) o (columns-more g e labels long (between-none g e labels long capacity refl) refl b p columns-none)
+      columns-whole (pourPoints g e labels) z (omega arith) o
+      (columns-more g e labels long (between-none g e labels long capacity refl) refl b p columns-none)

@@ -17,7 +17,8 @@ unfolding insert
 insert-few x [] = omega arith
 insert-few x (y ∷ l) = go (pairBelow x y) (samePair x y) (insert-few x l)
   where
-    go : (t u : Bool) → length (insert x l) ≤ length l + 1 → length (cond t (x ∷ y ∷ l) (cond u (better x y ∷ l) (y ∷ insert x l))) ≤ suc (length l) + 1
+    go : (t u : Bool) → length (insert x l) ≤ length l + 1 → length (cond t (x ∷ y ∷ l) (cond u (better x y ∷ l) (y ∷ insert x l)))
+        ≤ suc (length l) + 1
     go true u r = omega arith
     go false true r = omega arith
     go false false r = omega arith

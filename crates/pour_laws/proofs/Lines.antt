@@ -51,7 +51,8 @@ unfolding joinBelow
 join-out x zero f i = absurd i
 join-out x (suc n) f i = go (among-either x (joinBelow n f) (f n) i) (join-out x n f)
   where
-    go : Among x (joinBelow n f) ⊎ Among x (f n) → (Among x (joinBelow n f) → (k : ℕ) × (k < n) × Among x (f k)) → (k : ℕ) × (k < suc n) × Among x (f k)
+    go : Among x (joinBelow n f) ⊎ Among x (f n) → (Among x (joinBelow n f) → (k : ℕ) × (k < n) × Among x (f k)) →
+        (k : ℕ) × (k < suc n) × Among x (f k)
     go (inl j) r = let w = r j in (w .0, (let l = w .1 in omega arith), w .2)
     go (inr j) r = (n, omega arith, j)
 
@@ -80,10 +81,12 @@ not-both (negsuc a) (pos b) h k = let z : _≡_ {A = ℕ} 0 1 = cc in omega arit
 not-both (negsuc a) (negsuc b) h k = omega (arith, ltb-true b a h, ltb-true a b k)
 
 module _ (e : List ℤ) (labels : List ℕ) (c n : ℕ) where
-  cell-same : cond (ltZ (at e n) (at e c)) c (cond (ltZ (at e c) (at e n)) n (min c n)) ≡ cond (ltZ (at e c) (at e n)) n (cond (ltZ (at e n) (at e c)) c (min n c))
+  cell-same : cond (ltZ (at e n) (at e c)) c (cond (ltZ (at e c) (at e n)) n (min c n))
+      ≡ cond (ltZ (at e c) (at e n)) n (cond (ltZ (at e n) (at e c)) c (min n c))
   cell-same = go (ltZ (at e n) (at e c)) refl (ltZ (at e c) (at e n)) refl
     where
-      go : (t : Bool) → ltZ (at e n) (at e c) ≡ t → (u : Bool) → ltZ (at e c) (at e n) ≡ u → cond t c (cond u n (min c n)) ≡ cond u n (cond t c (min n c))
+      go : (t : Bool) → ltZ (at e n) (at e c) ≡ t → (u : Bool) → ltZ (at e c) (at e n) ≡ u →
+          cond t c (cond u n (min c n)) ≡ cond u n (cond t c (min n c))
       go true p true q = absurd (not-both (at e n) (at e c) p q)
       go true p false q = refl
       go false p true q = refl
@@ -92,7 +95,12 @@ module _ (e : List ℤ) (labels : List ℕ) (c n : ℕ) where
   candidate-same : candidate e labels c n ≡ candidate e labels n c
   unfolding candidate
   candidate-same =
-      rw (min-comm (getD labels c 0) (getD labels n 0), max-comm (getD labels c 0) (getD labels n 0), higher-same (at e c) (at e n), cell-same)
+      rw (
+        min-comm (getD labels c 0) (getD labels n 0),
+        max-comm (getD labels c 0) (getD labels n 0),
+        higher-same (at e c) (at e n),
+        cell-same,
+      )
 
   eqb-same : eqb (getD labels c 0) (getD labels n 0) ≡ eqb (getD labels n 0) (getD labels c 0)
   eqb-same = go (ℕ-discrete (getD labels c 0) (getD labels n 0))
@@ -111,7 +119,8 @@ module _ (e : List ℤ) (labels : List ℕ) (c n : ℕ) where
   unfolding candidateOf
   candidate-of-same =
       rw (candidate-same, eqb-same)
-      (ap (λ (t : Bool). cond t (candidate e labels n c ∷ []) []) (and-same (isData e c) (isData e n) (not (eqb (getD labels n 0) (getD labels c 0)))))
+      (ap (λ (t : Bool). cond t (candidate e labels n c ∷ []) [])
+      (and-same (isData e c) (isData e n) (not (eqb (getD labels n 0) (getD labels c 0)))))
 
 -- ---- the runs and the lines
 module _ (e : List ℤ) (labels : List ℕ) where
@@ -124,7 +133,8 @@ module _ (e : List ℤ) (labels : List ℕ) where
       go (yes l) r = among-right x (candidateOf e labels (c + k) (n + k)) (run e labels c n k) (r l)
       go (no l) r =
           let d : j ≡ k = omega arith in
-          among-left x (candidateOf e labels (c + k) (n + k)) (run e labels c n k) (subst (λ (m : ℕ). Among x (candidateOf e labels (c + m) (n + m))) d i)
+          among-left x (candidateOf e labels (c + k) (n + k)) (run e labels c n k)
+          (subst (λ (m : ℕ). Among x (candidateOf e labels (c + m) (n + m))) d i)
 
   run-out : (x : Entry) (c n k : ℕ) → Among x (run e labels c n k) → (j : ℕ) × (j < k) × Among x (candidateOf e labels (c + j) (n + j))
   unfolding run
@@ -158,7 +168,9 @@ module _ (g : Grid) (e : List ℤ) (labels : List ℕ) where
     where
       go : Dec (r < m) → (r < m → Among x (lines g e labels m)) → Among x (line g e labels m ++ lines g e labels m)
       go (yes l) f = among-right x (line g e labels m) (lines g e labels m) (f l)
-      go (no l) f = let d : r ≡ m = omega arith in among-left x (line g e labels m) (lines g e labels m) (subst (λ (k : ℕ). Among x (line g e labels k)) d i)
+      go (no l) f =
+          let d : r ≡ m = omega arith in
+          among-left x (line g e labels m) (lines g e labels m) (subst (λ (k : ℕ). Among x (line g e labels k)) d i)
 
   lines-out : (x : Entry) (m : ℕ) → Among x (lines g e labels m) → (r : ℕ) × (r < m) × Among x (line g e labels r)
   unfolding lines
@@ -177,7 +189,8 @@ module _ (g : Grid) (e : List ℤ) (labels : List ℕ) where
 
   line-between : (x : Entry) (r : ℕ) → r + 1 < g .rows → Among x (between e labels (g .cols) (r * g .cols)) → Among x (line g e labels r)
   unfolding line
-  line-between x r h i = among-left x (cond (ltb (r + 1) (g .rows)) (between e labels (g .cols) (r * g .cols)) []) _ (rw (lt-ltb (r + 1) (g .rows) h) i)
+  line-between x r h i =
+      among-left x (cond (ltb (r + 1) (g .rows)) (between e labels (g .cols) (r * g .cols)) []) _ (rw (lt-ltb (r + 1) (g .rows) h) i)
 
   line-out : (x : Entry) (r : ℕ)
       → Among x (line g e labels r)
@@ -185,7 +198,8 @@ module _ (g : Grid) (e : List ℤ) (labels : List ℕ) where
   unfolding line
   line-out x r i = go (among-either x (cond (ltb (r + 1) (g .rows)) (between e labels (g .cols) (r * g .cols)) []) _ i)
     where
-      last : (t : Bool) → ltb (r + 1) (g .rows) ≡ t → Among x (cond t (between e labels (g .cols) (r * g .cols)) []) → (r + 1 < g .rows) × Among x (between e labels (g .cols) (r * g .cols))
+      last : (t : Bool) → ltb (r + 1) (g .rows) ≡ t → Among x (cond t (between e labels (g .cols) (r * g .cols)) []) →
+          (r + 1 < g .rows) × Among x (between e labels (g .cols) (r * g .cols))
       last true d j = (ltb-true (r + 1) (g .rows) d, j)
       last false d j = absurd j
 
@@ -196,12 +210,14 @@ module _ (g : Grid) (e : List ℤ) (labels : List ℕ) where
 
   -- every two cells that touch are met
   at-cells : (x : Entry) (c n d m : ℕ) → c ≡ d → n ≡ m → Among x (candidateOf e labels c n) → Among x (candidateOf e labels d m)
-  at-cells x c n d m p q i = subst (λ (k : ℕ). Among x (candidateOf e labels k m)) p (subst (λ (k : ℕ). Among x (candidateOf e labels c k)) q i)
+  at-cells x c n d m p q i =
+      subst (λ (k : ℕ). Among x (candidateOf e labels k m)) p (subst (λ (k : ℕ). Among x (candidateOf e labels c k)) q i)
 
   later-in : (x : Entry) (c n : ℕ) → Later g c n → Among x (candidateOf e labels c n) → Among x (lines g e labels (g .rows))
   unfolding between
   later-in x c n (east r q h k p d) i =
-      lines-in x (g .rows) r h (line-within x r (run-in e labels x (r * g .cols) (r * g .cols + 1) (g .cols - 1) q (omega arith) (at-cells x c n _ _ p d i)))
+      lines-in x (g .rows) r h
+      (line-within x r (run-in e labels x (r * g .cols) (r * g .cols + 1) (g .cols - 1) q (omega arith) (at-cells x c n _ _ p d i)))
   later-in x c n (south-west r q h k p d) i =
       lines-in x (g .rows) r (omega arith)
       (line-between x r h
@@ -228,7 +244,8 @@ module _ (g : Grid) (e : List ℤ) (labels : List ℕ) where
   unfolding between Met
   later-out x i = of-line (lines-out x (g .rows) i)
     where
-      of-east : (r : ℕ) → r < g .rows → (j : ℕ) × (j < g .cols - 1) × Among x (candidateOf e labels (r * g .cols + j) (r * g .cols + 1 + j)) → Met x
+      of-east : (r : ℕ) → r < g .rows →
+          (j : ℕ) × (j < g .cols - 1) × Among x (candidateOf e labels (r * g .cols + j) (r * g .cols + 1 + j)) → Met x
       of-east r h w = (_, _, east r (w .0) h (let l = w .1 in omega arith) refl refl, w .2)
 
       of-three : (r : ℕ) → r + 1 < g .rows
@@ -236,19 +253,24 @@ module _ (g : Grid) (e : List ℤ) (labels : List ℕ) where
           ⊎ Among x (southOf r)
           → Met x
       of-three r h (inl (inl j)) =
-          let w = run-out e labels x (r * g .cols + 1) (r * g .cols + g .cols) (g .cols - 1) j in (_, _, south-west r (w .0) h (let l = w .1 in omega arith) refl refl, w .2)
+          let w = run-out e labels x (r * g .cols + 1) (r * g .cols + g .cols) (g .cols - 1) j in
+          (_, _, south-west r (w .0) h (let l = w .1 in omega arith) refl refl, w .2)
       of-three r h (inl (inr j)) =
-          let w = run-out e labels x (r * g .cols) (r * g .cols + g .cols + 1) (g .cols - 1) j in (_, _, south-east r (w .0) h (let l = w .1 in omega arith) refl refl, w .2)
+          let w = run-out e labels x (r * g .cols) (r * g .cols + g .cols + 1) (g .cols - 1) j in
+          (_, _, south-east r (w .0) h (let l = w .1 in omega arith) refl refl, w .2)
       of-three r h (inr j) =
           let w = run-out e labels x (r * g .cols) (r * g .cols + g .cols) (g .cols) j in (_, _, south r (w .0) h (w .1) refl refl, w .2)
 
       three : (r : ℕ) → Among x (between e labels (g .cols) (r * g .cols))
           → (Among x (southWest r) ⊎ Among x (southEast r))
           ⊎ Among x (southOf r)
-      three r j = ⊎-elim (λ k. inl (among-either x (southWest r) (southEast r) k)) (λ k. inr k) (among-either x (southWest r ++ southEast r) _ j)
+      three r j =
+          ⊎-elim (λ k. inl (among-either x (southWest r) (southEast r) k)) (λ k. inr k) (among-either x (southWest r ++ southEast r) _ j)
 
       of-line : (r : ℕ) × (r < g .rows) × Among x (line g e labels r) → Met x
-      of-line w = ⊎-elim (λ v. of-three (w .0) (v .0) (three (w .0) (v .1))) (λ v. of-east (w .0) (w .1) (run-out e labels x _ _ _ v)) (line-out x (w .0) (w .2))
+      of-line w =
+          ⊎-elim (λ v. of-three (w .0) (v .0) (three (w .0) (v .1))) (λ v. of-east (w .0) (w .1) (run-out e labels x _ _ _ v))
+          (line-out x (w .0) (w .2))
 
   candidate-data : (x : Entry) (c n : ℕ) → Among x (candidateOf e labels c n) → isData e n ≡ true
   unfolding candidateOf
@@ -266,9 +288,12 @@ module _ (g : Grid) (e : List ℤ) (labels : List ℕ) where
     scan-all x i =
         let w = join-out x (size g) (λ c. joinBelow 8 (candidatesAt g e labels c)) i in
         let v = join-out x 8 (candidatesAt g e labels (w .0)) (w .2) in
-        go (w .0) (v .0) (touch-later g (w .0) (w .1) (v .0) (v .1) (on-sheet g e long (neighbour g (w .0) (v .0)) (candidate-data x (w .0) (neighbour g (w .0) (v .0)) (v .2)))) (v .2)
+        go (w .0) (v .0)
+        (touch-later g (w .0) (w .1) (v .0) (v .1)
+        (on-sheet g e long (neighbour g (w .0) (v .0)) (candidate-data x (w .0) (neighbour g (w .0) (v .0)) (v .2)))) (v .2)
       where
-        go : (c p : ℕ) → Later g c (neighbour g c p) ⊎ Later g (neighbour g c p) c → Among x (candidateOf e labels c (neighbour g c p)) → Among x (lines g e labels (g .rows))
+        go : (c p : ℕ) → Later g c (neighbour g c p) ⊎ Later g (neighbour g c p) c → Among x (candidateOf e labels c (neighbour g c p)) →
+            Among x (lines g e labels (g .rows))
         go c p (inl l) j = later-in x c (neighbour g c p) l j
         go c p (inr l) j = later-in x (neighbour g c p) c l (subst (Among x) (candidate-of-same e labels c (neighbour g c p)) j)
 
@@ -284,4 +309,6 @@ module _ (g : Grid) (e : List ℤ) (labels : List ℕ) where
     -- the entries are those of the scan's candidates
     pub whole-scan : AllFit (lines g e labels (g .rows)) → Whole (lines g e labels (g .rows)) (pourPoints g e labels)
     unfolding pourPoints
-    whole-scan f = whole-same (candidates g e labels) (lines g e labels (g .rows)) _ scan-all scan-only (whole (candidates g e labels) (λ z i. f z (scan-all z i)))
+    whole-scan f =
+        whole-same (candidates g e labels) (lines g e labels (g .rows)) _ scan-all scan-only
+        (whole (candidates g e labels) (λ z i. f z (scan-all z i)))

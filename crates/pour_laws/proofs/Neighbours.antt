@@ -72,7 +72,8 @@ module _ (g : Grid) where
       out true = refl
       out false = refl
 
-      go : Dec (r < g .rows) → Dec (q < g .cols) → (r < g .rows) × (q < g .cols) × (cond (ltb r (g .rows) && ltb q (g .cols)) (r * g .cols + q) (size g) ≡ r * g .cols + q)
+      go : Dec (r < g .rows) → Dec (q < g .cols) →
+          (r < g .rows) × (q < g .cols) × (cond (ltb r (g .rows) && ltb q (g .cols)) (r * g .cols + q) (size g) ≡ r * g .cols + q)
       go (yes a) (yes b) = (a, b, rw (lt-ltb r (g .rows) a, lt-ltb q (g .cols) b))
       go (no a) b = absurd (off (rw (le-ltb r (g .rows) (omega arith))))
       go (yes a) (no b) = absurd (off (rw (le-ltb q (g .cols) (omega arith)) (out (ltb r (g .rows)))))
@@ -103,7 +104,12 @@ unfolding neighbour
 later-touches g c n (east r q h k e d) =
     subst (λ (m : ℕ). Touches g m n) (sym e) (
       cell-below g r q h (omega arith),
-      (1, omega arith, steps-to g r q h (omega arith) (pos 0) (pos 1) r (q + 1) (stays-at (g .rows) r h) (goes-up (g .cols) q k) h k ∙ (omega arith) ∙ sym d),
+      (
+        1,
+        omega arith,
+        steps-to g r q h (omega arith) (pos 0) (pos 1) r (q + 1) (stays-at (g .rows) r h) (goes-up (g .cols) q k) h k
+            ∙ (omega arith) ∙ sym d,
+      ),
     )
 later-touches g c n (south-east r q h k e d) =
     subst (λ (m : ℕ). Touches g m n) (sym e) (
@@ -169,7 +175,8 @@ module _ (g : Grid) (c : ℕ) (h : c < size g) where
   Either n = Later g c n ⊎ Later g n c
 
   abbrev On : ℤ → ℤ → ℕ → Type 0
-  On s t n = (n ≡ moved (g .rows) row s * g .cols + moved (g .cols) col t) × (moved (g .rows) row s < g .rows) × (moved (g .cols) col t < g .cols)
+  On s t n =
+      (n ≡ moved (g .rows) row s * g .cols + moved (g .cols) col t) × (moved (g .rows) row s < g .rows) × (moved (g .cols) col t < g .cols)
 
   sits : (s t : ℤ) (n x y : ℕ) → On s t n → moved (g .rows) row s ≡ x → moved (g .cols) col t ≡ y → n ≡ x * g .cols + y
   sits s t n x y w a b = w .0 ∙ ap₂ (λ (u v : ℕ). u * g .cols + v) a b
@@ -251,7 +258,8 @@ module _ (g : Grid) (c : ℕ) (h : c < size g) where
       let e = sits (negsuc 0) (pos 0) n (row - 1) col w (a .1) same-col in
       inr (south (row - 1) col (let z = a .0 in let j = row-in in omega arith) col-in (omega arith) (omega arith))
 
-  on-sheet : (s t : ℤ) → cellAt g (moved (g .rows) row s) (moved (g .cols) col t) < size g → On s t (cellAt g (moved (g .rows) row s) (moved (g .cols) col t))
+  on-sheet : (s t : ℤ) → cellAt g (moved (g .rows) row s) (moved (g .cols) col t) < size g →
+      On s t (cellAt g (moved (g .rows) row s) (moved (g .cols) col t))
   on-sheet s t k = let w = cell-on g (moved (g .rows) row s) (moved (g .cols) col t) k in (w .2, w .0, w .1)
 
   pub touch-later : (p : ℕ) → p < 8 → neighbour g c p < size g → Later g c (neighbour g c p) ⊎ Later g (neighbour g c p) c

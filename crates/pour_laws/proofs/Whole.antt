@@ -53,7 +53,8 @@ module _ (x y : Entry) (l : List Entry) (f : Fits x) (h : Fits y) where
           → Inserted x y l (cond (pairBelow x y) (x ∷ y ∷ l) (cond (samePair x y) (better x y ∷ l) (y ∷ insert x l)))
       go true e u d = inl (ltb-true _ _ e, rw (pair-below x y f h, e))
       go false e true d = inr (inl (eqb-true _ _ d, rw (pair-below x y f h, e, pair-same x y f h, d)))
-      go false e false d = inr (inr (strictly (pairOf x) (pairOf y) (ltb-false _ _ e) (eqb-false _ _ d), rw (pair-below x y f h, e, pair-same x y f h, d)))
+      go false e false d =
+          inr (inr (strictly (pairOf x) (pairOf y) (ltb-false _ _ e) (eqb-false _ _ d), rw (pair-below x y f h, e, pair-same x y f h, d)))
 
 -- the better of two of one pair
 abbrev Chosen : Entry → Entry → Entry → Type 0
@@ -140,7 +141,8 @@ module _ (x : Entry) (f : Fits x) where
       go m (inl w) r = subst (Bettered x) (sym (w .1)) (x, inl refl, refl, omega arith)
       go m (inr (inl w)) r =
           let c = better-is x y f (a y (inl refl)) in
-          subst (Bettered x) (sym (w .1)) (better x y, inl refl, chosen-pair x y (better x y) (w .0) c ∙ sym (w .0), chosen-first x y (better x y) c)
+          subst (Bettered x) (sym (w .1))
+          (better x y, inl refl, chosen-pair x y (better x y) (w .0) c ∙ sym (w .0), chosen-first x y (better x y) c)
       go m (inr (inr w)) r = subst (Bettered x) (sym (w .1)) (bettered-more y x (insert x l) r)
 
   insert-kept : (l : List Entry) → AllFit l → (z : Entry) → Bettered z l → Bettered z (insert x l)
@@ -168,8 +170,10 @@ pub record Whole (seen l : List Entry) : Type 0 where
   pub all : (z : Entry) → Among z seen → Bettered z l
 
 -- l holds the entries of what was seen before xs
-whole-all : (xs seen l : List Entry) → AllFit xs → AllFit seen → Rising l → ((z : Entry) → Among z l → Among z seen) → ((z : Entry) → Among z seen → Bettered z l)
-    → (all : List Entry) → ((z : Entry) → Among z xs ⊎ Among z seen → Among z all) → ((z : Entry) → Among z all → Among z xs ⊎ Among z seen) → Whole all (insertAll xs l)
+whole-all : (xs seen l : List Entry) → AllFit xs → AllFit seen → Rising l → ((z : Entry) → Among z l → Among z seen) →
+    ((z : Entry) → Among z seen → Bettered z l)
+    → (all : List Entry) → ((z : Entry) → Among z xs ⊎ Among z seen → Among z all) →
+    ((z : Entry) → Among z all → Among z xs ⊎ Among z seen) → Whole all (insertAll xs l)
 unfolding insertAll
 whole-all [] seen l fx fs r from to all into out =
     record {
@@ -212,5 +216,6 @@ whole xs f = whole-all xs [] [] f (λ z i. absurd i) tt (λ z i. i) (λ z i. abs
     only z (inl i) = i
     only z (inr i) = absurd i
 
-pub whole-same : (seen same l : List Entry) → ((z : Entry) → Among z seen → Among z same) → ((z : Entry) → Among z same → Among z seen) → Whole seen l → Whole same l
+pub whole-same : (seen same l : List Entry) → ((z : Entry) → Among z seen → Among z same) → ((z : Entry) → Among z same → Among z seen) →
+    Whole seen l → Whole same l
 whole-same seen same l f g w = record { rising = w .rising; from = λ z i. f z (w .from z i); all = λ z i. w .all z (g z i) }

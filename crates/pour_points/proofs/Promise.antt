@@ -18,7 +18,8 @@ use Rattle.grid.specs.PourPoints.{pourPoints}
 use Rattle.grid.specs.Promises.{PourPointsPromise}
 use Rattle.grid_laws.proofs.Tests.{test, cond-true, cond-false, and-true}
 use Rattle.checks.specs.Sizes.{Fits}
-use Rattle.checks.proofs.Asked.{rows-no, cols-no, inputs-no, sheets-yes, work-yes, fits-of-range, have-first, have-rest, Passed, Refused, passed, refused}
+use Rattle.checks.proofs.Asked.{rows-no, cols-no, inputs-no, sheets-yes, work-yes, fits-of-range, have-first, have-rest, Passed, Refused}
+use Rattle.checks.proofs.Asked.{passed, refused}
 use Rattle.pour_laws.specs.Batch.{Scanned}
 use Rattle.pour_laws.specs.Columns.{OneLength, Settled}
 
@@ -45,18 +46,24 @@ module _ (g : Grid) (a b : ℕ) where
   unfolding allHave
   asked-same later = by-rows (test (inRange (g .rows)))
     where
-      by-inputs : inRange (g .rows) ≡ true → inRange (g .cols) ≡ true → (allHave (size g) inputs ≡ true) ⊎ (allHave (size g) inputs ≡ false) → askSheets g inputs again (askWork g plenty later) ≡ askSheets g inputs [] later
+      by-inputs : inRange (g .rows) ≡ true → inRange (g .cols) ≡ true →
+          (allHave (size g) inputs ≡ true) ⊎ (allHave (size g) inputs ≡ false) →
+          askSheets g inputs again (askWork g plenty later) ≡ askSheets g inputs [] later
       by-inputs r c (inl i) =
           let f = fits-of-range g r c in
           let w : 4 * size g ≤ plenty = (let z = f .cells in omega arith) in
-          sheets-yes g inputs again (askWork g plenty later) r c i (again-have i) ∙ work-yes g plenty later w ∙ sym (sheets-yes g inputs [] later r c i refl)
+          sheets-yes g inputs again (askWork g plenty later) r c i (again-have i)
+          ∙ work-yes g plenty later w
+          ∙ sym (sheets-yes g inputs [] later r c i refl)
       by-inputs r c (inr i) = inputs-no g inputs again (askWork g plenty later) r c i ∙ sym (inputs-no g inputs [] later r c i)
 
-      by-cols : inRange (g .rows) ≡ true → (inRange (g .cols) ≡ true) ⊎ (inRange (g .cols) ≡ false) → askSheets g inputs again (askWork g plenty later) ≡ askSheets g inputs [] later
+      by-cols : inRange (g .rows) ≡ true → (inRange (g .cols) ≡ true) ⊎ (inRange (g .cols) ≡ false) →
+          askSheets g inputs again (askWork g plenty later) ≡ askSheets g inputs [] later
       by-cols r (inl c) = by-inputs r c (test (allHave (size g) inputs))
       by-cols r (inr c) = cols-no g inputs again (askWork g plenty later) r c ∙ sym (cols-no g inputs [] later r c)
 
-      by-rows : (inRange (g .rows) ≡ true) ⊎ (inRange (g .rows) ≡ false) → askSheets g inputs again (askWork g plenty later) ≡ askSheets g inputs [] later
+      by-rows : (inRange (g .rows) ≡ true) ⊎ (inRange (g .rows) ≡ false) →
+          askSheets g inputs again (askWork g plenty later) ≡ askSheets g inputs [] later
       by-rows (inl r) = by-cols r (test (inRange (g .cols)))
       by-rows (inr r) = rows-no g inputs again (askWork g plenty later) r ∙ sym (rows-no g inputs [] later r)
 
@@ -117,7 +124,9 @@ module _ (g : Grid) (e : List ℤ) (labels : List ℕ) {s₀ l₀ c₀ : List �
         cell = kept number above _ c₀;
       }
 
-  module _ (answer : Answer) (is : answer ≡ askSheets g (length e ∷ length labels ∷ []) (length e ∷ length e ∷ length e ∷ length e ∷ []) (askWork g plenty accepted)) where
+  module _ (answer : Answer)
+      (is : answer ≡ askSheets g (length e ∷ length labels ∷ []) (length e ∷ length e ∷ length e ∷ length e ∷ [])
+      (askWork g plenty accepted)) where
     pub promise-first : (answer .number ≡ 0 → ⊥)
         → PourPointsPromise g e labels s₀ s₀ l₀ l₀ e₀ e₀ c₀ c₀ (record { number = answer .number; place = answer .place; count = 0 })
     unfolding pourPointsCheck

@@ -1,6 +1,7 @@
-// Table 6, the call: "Entries rise by smaller, then larger label, in four lent columns; their count is reported; places past it are untouched."
-// It asks 5 to 8 and 14. The first scan gives all entries if they are fewer than a batch has room for. Else scans count the rest before
-// anything is written ("A no changes no result buffer"), and scans write them all: for p entries one scan, or about 2 p / 16,384 of them.
+// Table 6, the call: "Entries rise by smaller, then larger label, in four lent columns; their count is reported; places past it are
+// untouched." It asks 5 to 8 and 14. The first scan gives all entries if they are fewer than a batch has room for. Else scans count the
+// rest before anything is written ("A no changes no result buffer"), and scans write them all: for p entries one scan, or about 2 p /
+// 16,384 of them.
 use grid::Counted;
 use grid::Grid;
 use pour::CAPACITY;
@@ -58,7 +59,9 @@ fn settle_few(
     requires { ⌜ Batch capacity 0 (lines g (now elevations) (now labels) (g .rows)) k (now pairs) (now ranks) ⌝ }
     requires { ⌜ k < capacity ⌝ }
     requires { ⌜ OneLength (now smaller) (now larger) (now elevation) (now cell) ⌝ }
-    ensures { λ r. ⌜ Settled (pourPoints g (now (elevations .entry)) (now (labels .entry))) (now (smaller .entry)) (now (smaller .exit)) (now (larger .entry)) (now (larger .exit)) (now (elevation .entry)) (now (elevation .exit)) (now (cell .entry)) (now (cell .exit)) r ⌝ }
+    ensures { λ r. ⌜ Settled (pourPoints g (now (elevations .entry)) (now (labels .entry))) (now (smaller .entry)) (now (smaller .exit))
+        (now (larger .entry)) (now (larger .exit)) (now (elevation .entry)) (now (elevation .exit)) (now (cell .entry)) (now (cell .exit))
+        r ⌝ }
 {
     if smaller.len() < k {
         return short(k);
@@ -85,7 +88,9 @@ fn settle_many(
     requires { ⌜ length (now elevations) ≡ size g ⌝ }
     requires { ⌜ Batch capacity 0 (lines g (now elevations) (now labels) (g .rows)) k (now pairs) (now ranks) ⌝ }
     requires { ⌜ OneLength (now smaller) (now larger) (now elevation) (now cell) ⌝ }
-    ensures { λ r. ⌜ Settled (pourPoints g (now (elevations .entry)) (now (labels .entry))) (now (smaller .entry)) (now (smaller .exit)) (now (larger .entry)) (now (larger .exit)) (now (elevation .entry)) (now (elevation .exit)) (now (cell .entry)) (now (cell .exit)) r ⌝ }
+    ensures { λ r. ⌜ Settled (pourPoints g (now (elevations .entry)) (now (labels .entry))) (now (smaller .entry)) (now (smaller .exit))
+        (now (larger .entry)) (now (larger .exit)) (now (elevation .entry)) (now (elevation .exit)) (now (cell .entry)) (now (cell .exit))
+        r ⌝ }
 {
     let n = pour_columns::count_on(g, elevations, labels, k, pairs, ranks);
     if smaller.len() < n {
@@ -118,7 +123,9 @@ fn settle(
     requires { ⌜ Scanned g (now labels) ⌝ }
     requires { ⌜ length (now elevations) ≡ size g ⌝ }
     requires { ⌜ OneLength (now smaller) (now larger) (now elevation) (now cell) ⌝ }
-    ensures { λ r. ⌜ Settled (pourPoints g (now (elevations .entry)) (now (labels .entry))) (now (smaller .entry)) (now (smaller .exit)) (now (larger .entry)) (now (larger .exit)) (now (elevation .entry)) (now (elevation .exit)) (now (cell .entry)) (now (cell .exit)) r ⌝ }
+    ensures { λ r. ⌜ Settled (pourPoints g (now (elevations .entry)) (now (labels .entry))) (now (smaller .entry)) (now (smaller .exit))
+        (now (larger .entry)) (now (larger .exit)) (now (elevation .entry)) (now (elevation .exit)) (now (cell .entry)) (now (cell .exit))
+        r ⌝ }
 {
     let mut pairs = [0u64; CAPACITY];
     let mut ranks = [0u64; CAPACITY];
@@ -174,7 +181,9 @@ pub fn pour_points(
     elevation: &mut [i16],
     cell: &mut [u32],
 ) -> Counted
-    ensures { λ r. ⌜ PourPointsPromise g (now (elevations .entry)) (now (labels .entry)) (now (smaller .entry)) (now (smaller .exit)) (now (larger .entry)) (now (larger .exit)) (now (elevation .entry)) (now (elevation .exit)) (now (cell .entry)) (now (cell .exit)) r ⌝ }
+    ensures { λ r. ⌜ PourPointsPromise g (now (elevations .entry)) (now (labels .entry)) (now (smaller .entry)) (now (smaller .exit))
+        (now (larger .entry)) (now (larger .exit)) (now (elevation .entry)) (now (elevation .exit)) (now (cell .entry)) (now (cell .exit))
+        r ⌝ }
 {
     let given = elevations.len();
     // No result sheet and no work buffer: 8 and 9 of `check` are asked of what 7 has passed.

@@ -75,10 +75,12 @@ text-first true true false p later = refl
 text-first true false c p later = refl
 text-first false b c p later = refl
 
-pub in-parts : (text : List ℕ) (room : ℕ) → readCheck text room ≡ cond (isAccepted (textCheck text)) (sizeCheck (textGrid text) room) (textCheck text)
+pub in-parts : (text : List ℕ) (room : ℕ) →
+    readCheck text room ≡ cond (isAccepted (textCheck text)) (sizeCheck (textGrid text) room) (textCheck text)
 unfolding readCheck textCheck sizeCheck
 in-parts text room =
-    text-first (leb (length text) 11529) (eqb (firstBadByte text) (length text)) (isShaped text) (firstBadByte text) (sizeCheck (textGrid text) room)
+    text-first (leb (length text) 11529) (eqb (firstBadByte text) (length text)) (isShaped text) (firstBadByte text)
+    (sizeCheck (textGrid text) room)
 
 last-of-three : (a b c : Bool) (p : ℕ) → (ask a (refusal 1 0) (ask b (refusal 2 p) (ask c (refusal 3 0) accepted))) .number ≡ 0 → c ≡ true
 last-of-three true true true p h = refl
@@ -123,7 +125,8 @@ size-accepted g room h =
 
 module _ (text : List ℕ) (e₀ : List ℤ) where
   -- beside a no
-  refused : (a : Answer) (r : Dimensions) → r ≡ withoutSize a → a ≡ readCheck text (length e₀) → (a .number ≡ 0 → ⊥) → ReadPromise text e₀ e₀ r
+  refused : (a : Answer) (r : Dimensions) → r ≡ withoutSize a → a ≡ readCheck text (length e₀) → (a .number ≡ 0 → ⊥) →
+      ReadPromise text e₀ e₀ r
   refused a r w q n = rw w record {
     answer = q;
     rows = rw (ne-eqb (a .number) 0 n);
@@ -131,7 +134,8 @@ module _ (text : List ℕ) (e₀ : List ℤ) where
     result = rw (ne-eqb (a .number) 0 n);
   }
 
-  pub text-refused : (a : Answer) (r : Dimensions) → r ≡ withoutSize a → a ≡ textCheck text → (a .number ≡ 0 → ⊥) → ReadPromise text e₀ e₀ r
+  pub text-refused : (a : Answer) (r : Dimensions) → r ≡ withoutSize a → a ≡ textCheck text → (a .number ≡ 0 → ⊥) →
+      ReadPromise text e₀ e₀ r
   text-refused a r w q n =
       let k : isAccepted (textCheck text) ≡ false = rw q at (ne-eqb (a .number) 0 n) in
       refused a r w (q ∙ sym (in-parts text (length e₀) ∙ rw k)) n

@@ -1,6 +1,6 @@
-// The call `read`: a text of any bytes into rows, columns and a lent sheet of elevations. Questions 1, 2, 3, 4, 5, 6 and 8 are asked in that order,
-// each with its place; "A no changes no result buffer", and rows and columns are 0 beside it. Once all are answered, the elevations are stored
-// by `text_sheet`.
+// The call `read`: a text of any bytes into rows, columns and a lent sheet of elevations. Questions 1, 2, 3, 4, 5, 6 and 8 are asked in
+// that order, each with its place; "A no changes no result buffer", and rows and columns are 0 beside it. Once all are answered, the
+// elevations are stored by `text_sheet`.
 ghost use mathlib.Core.Path.{_≡_};
 ghost use Prim.Native.Nat.{_≤_};
 ghost use lib.ListN.{length};
@@ -10,8 +10,8 @@ use grid::Answer;
 use grid::Dimensions;
 use grid::Grid;
 
-// "1. Is the text at most 11,529 bytes?" "2. Is every byte a digit 0–9, A–F, a–f or a line feed?" "3. Is it a line of 4 digits for rows and 4 for
-// columns, then exactly that many lines .. and nothing more?"
+// "1. Is the text at most 11,529 bytes?" "2. Is every byte a digit 0–9, A–F, a–f or a line feed?" "3. Is it a line of 4 digits for rows
+// and 4 for columns, then exactly that many lines .. and nothing more?"
 fn check_text(text: &[u8]) -> Answer
     ensures { λ r. ⌜ r ≡ textCheck (now (text .entry)) ⌝ }
 {
@@ -40,8 +40,8 @@ fn check_text(text: &[u8]) -> Answer
     }
 }
 
-// "4. In a call with text: is rows × columns at most 2,304?" "5. Rows from 1 to 4,000?" "6. Columns from 1 to 4,000?" "8. Has each result sheet
-// rows × columns elements (a sheet read from text: at least as many)?"
+// "4. In a call with text: is rows × columns at most 2,304?" "5. Rows from 1 to 4,000?" "6. Columns from 1 to 4,000?" "8. Has each result
+// sheet rows × columns elements (a sheet read from text: at least as many)?"
 fn check_size(g: Grid, room: usize) -> Answer
     requires { ⌜ (g .rows ≤ 69904) × (g .cols ≤ 69904) ⌝ }
     ensures { λ r. ⌜ r ≡ sizeCheck g room ⌝ }

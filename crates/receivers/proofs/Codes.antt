@@ -15,7 +15,8 @@ use Rattle.grid.specs.declared.Grid.{Grid}
 use Rattle.grid.specs.Below.{table, firstBelow}
 use Rattle.grid.specs.Sheet.{size, codeAt, positionOf, neighbour}
 use Rattle.grid.specs.Routes.{positionAt, hasCode, receiver, firstBadCode}
-use Rattle.grid_laws.proofs.Tests.{test, true-false, cond-true, cond-false, or-left, or-right, or-cases, or-none-left, or-none-right, and-true, and-false-left, and-false-right, not-of-true, not-of-false, not-true-false, same-test}
+use Rattle.grid_laws.proofs.Tests.{test, true-false, cond-true, cond-false, or-left, or-right, or-cases, or-none-left, or-none-right}
+use Rattle.grid_laws.proofs.Tests.{and-true, and-false-left, and-false-right, not-of-true, not-of-false, not-true-false, same-test}
 use Rattle.grid_laws.proofs.Below.{at-table, first-is, first-none, first-found, first-all, first-≤}
 use Rattle.grid_laws.proofs.Neighbours.{down, right, at-eight, down-small, right-small, neighbour-≤, inner-neighbour}
 use Rattle.route_laws.specs.Receivers.{receiverMark, AllCodes}
@@ -24,7 +25,8 @@ use Rattle.cells.specs.Steps.{Inner}
 use Rattle.receivers.specs.Written.{isAllowed, badTable, FirstBad, ReachTable}
 
 -- ---- the table of what is no code
-pub bad-table-is : set (set (set (set (set (set (set (set (set (replicate 256 1) 0 0) 1 0) 2 0) 4 0) 8 0) 16 0) 32 0) 64 0) 128 0 ≡ badTable
+pub bad-table-is : set (set (set (set (set (set (set (set (set (replicate 256 1) 0 0) 1 0) 2 0) 4 0) 8 0) 16 0) 32 0) 64 0) 128
+    0 ≡ badTable
 unfolding badTable table isAllowed positionOf firstBelow
 bad-table-is = refl
 
@@ -33,7 +35,8 @@ unfolding badTable
 at-bad-table k h = at-table 256 (λ k. cond (isAllowed k) 0 1) k 0 h
 
 pub bad-yes : (k : ℕ) → k < 256 → getD badTable k 0 ≡ 1 → isAllowed k ≡ false
-bad-yes k h e = not-true-false (isAllowed k) (λ t. let q : getD badTable k 0 ≡ 0 = at-bad-table k h ∙ cond-true 0 1 t in let z : ⊥ = omega arith in z)
+bad-yes k h e =
+    not-true-false (isAllowed k) (λ t. let q : getD badTable k 0 ≡ 0 = at-bad-table k h ∙ cond-true 0 1 t in let z : ⊥ = omega arith in z)
 
 pub bad-no : (k : ℕ) → k < 256 → (getD badTable k 0 ≡ 1 → ⊥) → isAllowed k ≡ true
 bad-no k h f = ⊎-elim (λ t. t) (λ t. absurd (f (at-bad-table k h ∙ cond-false 0 1 t))) (test (isAllowed k))
@@ -42,11 +45,15 @@ bad-no k h f = ⊎-elim (λ t. t) (λ t. absurd (f (at-bad-table k h ∙ cond-fa
 module _ (g : Grid) (codes : List ℕ) where
   not-bad : (c : ℕ) → isAllowed (getD codes c 0) ≡ true → (not (eqb (getD codes c 0) 0) && not (hasCode codes c)) ≡ false
   unfolding isAllowed hasCode
-  not-bad c t = ⊎-elim (λ e. and-false-left _ (not-of-true e)) (λ e. and-false-right (not (eqb (getD codes c 0) 0)) (not-of-true e)) (or-cases (eqb (getD codes c 0) 0) (ltb (positionAt codes c) 8) t)
+  not-bad c t =
+      ⊎-elim (λ e. and-false-left _ (not-of-true e)) (λ e. and-false-right (not (eqb (getD codes c 0) 0)) (not-of-true e))
+      (or-cases (eqb (getD codes c 0) 0) (ltb (positionAt codes c) 8) t)
 
   bad : (c : ℕ) → isAllowed (getD codes c 0) ≡ false → (not (eqb (getD codes c 0) 0) && not (hasCode codes c)) ≡ true
   unfolding isAllowed hasCode
-  bad c f = and-true (not-of-false (or-none-left (eqb (getD codes c 0) 0) (ltb (positionAt codes c) 8) f)) (not-of-false (or-none-right (eqb (getD codes c 0) 0) (ltb (positionAt codes c) 8) f))
+  bad c f =
+      and-true (not-of-false (or-none-left (eqb (getD codes c 0) 0) (ltb (positionAt codes c) 8) f))
+      (not-of-false (or-none-right (eqb (getD codes c 0) 0) (ltb (positionAt codes c) 8) f))
 
   pub first-bad-is : length codes ≡ size g → (r : ℕ) → FirstBad codes r → r ≡ firstBadCode g codes
   unfolding firstBadCode
@@ -56,37 +63,51 @@ module _ (g : Grid) (codes : List ℕ) where
       p = λ c. not (eqb (getD codes c 0) 0) && not (hasCode codes c)
 
       go : Dec (r < size g) → r ≡ firstBelow (size g) (λ c. not (eqb (getD codes c 0) 0) && not (hasCode codes c))
-      go (yes h) = sym (first-is (size g) (λ c. not (eqb (getD codes c 0) 0) && not (hasCode codes c)) r h (bad r (F .at (omega arith))) (λ j l. not-bad j (F .below j l)))
+      go (yes h) =
+          sym (first-is (size g) (λ c. not (eqb (getD codes c 0) 0) && not (hasCode codes c)) r h (bad r (F .at (omega arith)))
+          (λ j l. not-bad j (F .below j l)))
       go (no f) =
           let w = F .within in
           let e : r ≡ size g = omega arith in
-          e ∙ sym (first-none (size g) (λ c. not (eqb (getD codes c 0) 0) && not (hasCode codes c)) (λ j l. not-bad j (F .below j (omega arith))))
+          e
+          ∙ sym (first-none (size g) (λ c. not (eqb (getD codes c 0) 0) && not (hasCode codes c))
+          (λ j l. not-bad j (F .below j (omega arith))))
 
   -- a yes: every code is 0 or one of the eight
   pub all-codes : length codes ≡ size g → firstBadCode g codes ≡ size g → AllCodes codes
   unfolding firstBadCode
   all-codes long e c = go (decLt c (size g)) (test (eqb (getD codes c 0) 0)) (test (hasCode codes c))
     where
-      go : Dec (c < size g) → (eqb (getD codes c 0) 0 ≡ true) ⊎ (eqb (getD codes c 0) 0 ≡ false) → (hasCode codes c ≡ true) ⊎ (hasCode codes c ≡ false) → (getD codes c 0 ≡ 0) ⊎ (hasCode codes c ≡ true)
+      go : Dec (c < size g) → (eqb (getD codes c 0) 0 ≡ true) ⊎ (eqb (getD codes c 0) 0 ≡ false) →
+          (hasCode codes c ≡ true) ⊎ (hasCode codes c ≡ false) → (getD codes c 0 ≡ 0) ⊎ (hasCode codes c ≡ true)
       go d (inl z) h = inl (eqb-true (getD codes c 0) 0 z)
       go d (inr z) (inl h) = inr h
-      go (yes l) (inr z) (inr h) = true-false (and-true (not-of-false z) (not-of-false h)) (first-all (size g) (λ c. not (eqb (getD codes c 0) 0) && not (hasCode codes c)) e c l)
+      go (yes l) (inr z) (inr h) =
+          true-false (and-true (not-of-false z) (not-of-false h))
+          (first-all (size g) (λ c. not (eqb (getD codes c 0) 0) && not (hasCode codes c)) e c l)
       go (no f) (inr z) (inr h) = inl (lib.ListN.List·getD-eq-default codes 0 (let q : length codes ≤ c = omega arith in q))
 
 -- ---- the table of reaches
 abbrev reachStores : ℕ → List ℕ
-reachStores cols = set (set (set (set (set (set (set (replicate 256 0) 1 2) 2 (cols + 2)) 4 (2 * cols + 2)) 8 (2 * cols + 1)) 16 (2 * cols)) 32 cols) 128 1
+reachStores cols =
+    set (set (set (set (set (set (set (replicate 256 0) 1 2) 2 (cols + 2)) 4 (2 * cols + 2)) 8 (2 * cols + 1)) 16 (2 * cols)) 32 cols) 128
+    1
 
 pub reach-table-is : (cols : ℕ) → ReachTable cols (reachStores cols)
 reach-table-is cols =
-    record { long = refl; at = at-eight (λ p. getD (reachStores cols) (codeAt p) 0 ≡ down p * cols + right p) (omega arith) (omega arith) (omega arith) (omega arith) (omega arith) (omega arith) (omega arith) (omega arith) }
+    record {
+      long = refl;
+      at = at-eight (λ p. getD (reachStores cols) (codeAt p) 0 ≡ down p * cols + right p) (omega arith) (omega arith)
+          (omega arith) (omega arith) (omega arith) (omega arith) (omega arith) (omega arith);
+    }
 
 -- a code and its position
 pub code-of-position : (k : ℕ) → positionOf k < 8 → k ≡ codeAt (positionOf k)
 unfolding positionOf
 code-of-position k h = eqb-true k (codeAt (firstBelow 8 (λ p. eqb k (codeAt p)))) (first-found 8 (λ p. eqb k (codeAt p)) h)
 
-pub reach-at : (cols : ℕ) (reach : List ℕ) (k : ℕ) → ReachTable cols reach → positionOf k < 8 → getD reach k 0 ≡ down (positionOf k) * cols + right (positionOf k)
+pub reach-at : (cols : ℕ) (reach : List ℕ) (k : ℕ) → ReachTable cols reach → positionOf k < 8 →
+    getD reach k 0 ≡ down (positionOf k) * cols + right (positionOf k)
 reach-at cols reach k R h = ap (λ (x : ℕ). getD reach x 0) (code-of-position k h) ∙ R .at (positionOf k) h
 
 -- ---- the mark of a cell, by the tests of a program
@@ -113,15 +134,22 @@ module _ (g : Grid) (codes : List ℕ) (long : length codes ≡ size g) (all : A
 
     pub mark-off : size g ≤ d → size g ≡ receiverMark g codes c
     unfolding receiverMark
-    mark-off h = sym (cond-true _ _ (has c f) ∙ cond-false _ _ (not-true-false (hasCode codes (receiver g codes c)) (λ t. let q = code-below codes (receiver g codes c) t in let r = is-receiver in omega arith)))
+    mark-off h =
+        sym (cond-true _ _ (has c f)
+        ∙ cond-false _ _
+        (not-true-false (hasCode codes (receiver g codes c))
+        (λ t. let q = code-below codes (receiver g codes c) t in let r = is-receiver in omega arith)))
 
     pub mark-stop : getD codes d 0 ≡ 0 → size g ≡ receiverMark g codes c
     unfolding receiverMark
-    mark-stop z = sym (cond-true _ _ (has c f) ∙ cond-false _ _ (no-code (receiver g codes c) (subst (λ (x : ℕ). getD codes x 0 ≡ 0) is-receiver z)))
+    mark-stop z =
+        sym (cond-true _ _ (has c f) ∙ cond-false _ _ (no-code (receiver g codes c) (subst (λ (x : ℕ). getD codes x 0 ≡ 0) is-receiver z)))
 
     pub mark-on : (getD codes d 0 ≡ 0 → ⊥) → d ≡ receiverMark g codes c
     unfolding receiverMark
-    mark-on z = sym (cond-true _ _ (has c f) ∙ cond-true _ _ (has (receiver g codes c) (λ q. z (subst (λ (x : ℕ). getD codes x 0 ≡ 0) (sym is-receiver) q))) ∙ sym is-receiver)
+    mark-on z =
+        sym (cond-true _ _ (has c f)
+        ∙ cond-true _ _ (has (receiver g codes c) (λ q. z (subst (λ (x : ℕ). getD codes x 0 ≡ 0) (sym is-receiver) q))) ∙ sym is-receiver)
 
 -- ---- the same, by a copy of the codes at the front of a buffer
 codes-small : (p : ℕ) → p < 8 → codeAt p < 256
@@ -167,7 +195,8 @@ pub record Reached (g : Grid) (c p v : ℕ) : Type 0 where
   pub low : g .cols + 1 ≤ c + v
   pub is : c + v - (g .cols + 1) ≡ neighbour g c p
 
-pub reached : (g : Grid) (c row col k : ℕ) (reach : List ℕ) → size g < 2 ^ 24 → c < size g → row ≡ c / g .cols → col ≡ c % g .cols → positionOf k < 8 → ReachTable (g .cols) reach → Inner g row col → Reached g c (positionOf k) (getD reach k 0)
+pub reached : (g : Grid) (c row col k : ℕ) (reach : List ℕ) → size g < 2 ^ 24 → c < size g → row ≡ c / g .cols → col ≡ c % g .cols →
+    positionOf k < 8 → ReachTable (g .cols) reach → Inner g row col → Reached g c (positionOf k) (getD reach k 0)
 reached g c row col k reach hs hc er eq hp R (a, b, d, e) =
     let v = reach-at (g .cols) reach k R hp in
     let w = inner-neighbour g c (positionOf k) hp (rw (sym er) a) (rw (sym er) b) (rw (sym eq) d) (rw (sym eq) e) in

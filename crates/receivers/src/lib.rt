@@ -1,8 +1,9 @@
-// Question 11, and the list of receivers of a sheet of codes: for each cell the next cell of its route, size where the route ends there, size + 1
-// where there is no code (`route_laws`, `specs/Receivers`). "A route .. ends at the first cell whose code points off the sheet or at a cell with
-// code 0." The list is written into the lent tail, from the codes, or from the copy of them that the counts call has in the first half of the work
-// buffer. Tables by code, made once for a sheet, say what is a code and how far its neighbour lies in the numbering, so only cells of the border
-// look at rows and columns. Proof: each function gives one element of the definition, and a loop collects them.
+// Question 11, and the list of receivers of a sheet of codes: for each cell the next cell of its route, size where the route ends there,
+// size + 1 where there is no code (`route_laws`, `specs/Receivers`). "A route .. ends at the first cell whose code points off the sheet or
+// at a cell with code 0." The list is written into the lent tail, from the codes, or from the copy of them that the counts call has in the
+// first half of the work buffer. Tables by code, made once for a sheet, say what is a code and how far its neighbour lies in the
+// numbering, so only cells of the border look at rows and columns. Proof: each function gives one element of the definition, and a loop
+// collects them.
 use cells::Direction;
 use grid::Grid;
 ghost use mathlib.Core.Path.{_≡_};
@@ -288,7 +289,8 @@ pub fn receivers_from_copy(g: Grid, work: &mut [u32], half: usize)
     requires { ⌜ size g ≤ half ⌝ }
     requires { ⌜ half + size g ≤ length (now work) ⌝ }
     requires { ⌜ AllCodes (take (size g) (now work)) ⌝ }
-    ensures { λ _. ⌜ now (work .exit) ≡ take half (now (work .entry)) ++ (receivers g (take (size g) (now (work .entry))) ++ drop (half + size g) (now (work .entry))) ⌝ }
+    ensures { λ _. ⌜ now (work .exit) ≡ take half (now (work .entry))
+        ++ (receivers g (take (size g) (now (work .entry))) ++ drop (half + size g) (now (work .entry))) ⌝ }
 {
     let table = reach_table(g.cols);
     write_marks_of_copy(g, &table, work, half);

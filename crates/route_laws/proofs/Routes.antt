@@ -1,5 +1,5 @@
--- Routes with no geometry. The number of a route's cells is its own, so no cell comes again; so there are at most n, and fuel n follows it whole.
--- Each fact about a route is then one about its first step.
+-- Routes with no geometry. The number of a route's cells is its own, so no cell comes again; so there are at most n, and fuel n follows it
+-- whole. Each fact about a route is then one about its first step.
 use mathlib.Core.Path.{_≡_, refl, sym, _∙_, ap, ap₂, subst}
 use mathlib.Core.Logic.{_⊎_, inl, inr, ⊎-elim}
 use mathlib.Core.Bool.{Bool, true, false, not, cond, _&&_, _||_}
@@ -117,7 +117,8 @@ module _ (live : ℕ → Bool) (next : ℕ → ℕ) where
           (test (live c))
 
   -- so does one that rises below a bound
-  pub bounded-rank-ends : (rank : ℕ → ℕ) (b : ℕ) → ((c : ℕ) → live c ≡ true → rank c < b) → ((c : ℕ) → live c ≡ true → live (next c) ≡ true → rank c < rank (next c)) → (c : ℕ) → Ends live next c
+  pub bounded-rank-ends : (rank : ℕ → ℕ) (b : ℕ) → ((c : ℕ) → live c ≡ true → rank c < b) →
+      ((c : ℕ) → live c ≡ true → live (next c) ≡ true → rank c < rank (next c)) → (c : ℕ) → Ends live next c
   bounded-rank-ends rank b below rises =
       rank-ends (λ c. b - rank c) (λ c t u. let h = rises c t u in let k = below c t in let j = below (next c) u in omega arith)
 
@@ -147,7 +148,8 @@ module _ (live : ℕ → Bool) (next : ℕ → ℕ) where
 
   -- a cell that comes back to itself has no end
   pub ring-endless : (k s : ℕ) → Reaches live next (suc k) s s → Ends live next s → ⊥
-  ring-endless k s r (j, a) = let q = after-steps (suc k) j s s r a in let e = q .1 in let w : q .0 ≡ j = same-length (q .0) j s (q .2) a in omega arith
+  ring-endless k s r (j, a) =
+      let q = after-steps (suc k) j s s r a in let e = q .1 in let w : q .0 ≡ j = same-length (q .0) j s (q .2) a in omega arith
 
   -- ---- where live cells lie below n
   module _ (n : ℕ) (on : (c : ℕ) → live c ≡ true → c < n) where
@@ -171,15 +173,19 @@ module _ (live : ℕ → Bool) (next : ℕ → ℕ) where
     pub route-step : (c : ℕ) → Ends live next c → live c ≡ true → follow live next n c ≡ c ∷ follow live next n (next c)
     route-step c (zero, a) t = true-false t a
     route-step c (suc k, a) t =
-        enough (suc k) n c a (short (suc k) c a) ∙ follow-live k c (a .0) ∙ ap (λ (l : List ℕ). c ∷ l) (sym (enough k n (next c) (a .1) (short k (next c) (a .1))))
+        enough (suc k) n c a (short (suc k) c a)
+        ∙ follow-live k c (a .0)
+        ∙ ap (λ (l : List ℕ). c ∷ l) (sym (enough k n (next c) (a .1) (short k (next c) (a .1))))
 
     pub route-not-again : (c : ℕ) → Ends live next c → live c ≡ true → has c (follow live next n (next c)) ≡ false
     route-not-again c (zero, a) t = true-false t a
     route-not-again c (suc k, a) t =
-        no-in-has c (follow live next n (next c)) (λ i. not-again k c a (subst (λ (l : List ℕ). In c l) (enough k n (next c) (a .1) (short k (next c) (a .1))) i))
+        no-in-has c (follow live next n (next c))
+        (λ i. not-again k c a (subst (λ (l : List ℕ). In c l) (enough k n (next c) (a .1) (short k (next c) (a .1))) i))
 
     -- the number of cells left falls by one at each step
-    pub length-step : (c : ℕ) → Ends live next c → live c ≡ true → length (follow live next n c) ≡ suc (length (follow live next n (next c)))
+    pub length-step : (c : ℕ) → Ends live next c → live c ≡ true →
+        length (follow live next n c) ≡ suc (length (follow live next n (next c)))
     length-step c a t = ap length (route-step c a t)
 
     -- ---- the last cell
@@ -187,7 +193,8 @@ module _ (live : ℕ → Bool) (next : ℕ → ℕ) where
     unfolding lastMark
     last-dead c e = rw e
 
-    pub last-on : (c : ℕ) → Ends live next c → live c ≡ true → live (next c) ≡ true → lastMark live next n c ≡ lastMark live next n (next c)
+    pub last-on : (c : ℕ) → Ends live next c → live c ≡ true → live (next c) ≡ true →
+        lastMark live next n c ≡ lastMark live next n (next c)
     unfolding lastMark lastOf
     last-on c a t u = rw (t, u, route-step c a t, route-step (next c) (ends-after c t a) u)
 
@@ -209,7 +216,8 @@ module _ (live : ℕ → Bool) (next : ℕ → ℕ) where
         (test (live (next c)))
 
     -- the same by k steps
-    pub last-reached : (k s c : ℕ) → Reaches live next k s c → Ends live next c → live c ≡ true → lastMark live next n s ≡ lastMark live next n c
+    pub last-reached : (k s c : ℕ) → Reaches live next k s c → Ends live next c → live c ≡ true →
+        lastMark live next n s ≡ lastMark live next n c
     last-reached zero s c e a t = ap (lastMark live next n) e
     last-reached (suc k) s c (u, r) a t =
         last-on s (reached-ends (suc k) s c (u, r) a) u (start-live k (next s) c r t) ∙ last-reached k (next s) c r a t
@@ -237,7 +245,8 @@ module _ (live : ℕ → Bool) (next : ℕ → ℕ) where
         (test (live c))
 
 -- ---- two ways to say what is live and what comes next: the routes are the same
-module _ (live₁ live₂ : ℕ → Bool) (next₁ next₂ : ℕ → ℕ) (same : (c : ℕ) → live₁ c ≡ live₂ c) (step : (c : ℕ) → live₁ c ≡ true → (next₁ c ≡ next₂ c) ⊎ ((live₁ (next₁ c) ≡ false) × (live₂ (next₂ c) ≡ false))) where
+module _ (live₁ live₂ : ℕ → Bool) (next₁ next₂ : ℕ → ℕ) (same : (c : ℕ) → live₁ c ≡ live₂ c)
+    (step : (c : ℕ) → live₁ c ≡ true → (next₁ c ≡ next₂ c) ⊎ ((live₁ (next₁ c) ≡ false) × (live₂ (next₂ c) ≡ false))) where
   abbrev Stepped : ℕ → Type 0
   Stepped c = (next₁ c ≡ next₂ c) ⊎ ((live₁ (next₁ c) ≡ false) × (live₂ (next₂ c) ≡ false))
 
@@ -250,7 +259,8 @@ module _ (live₁ live₂ : ℕ → Bool) (next₁ next₂ : ℕ → ℕ) (same 
       (λ f. rw (sym (same c)) (rw f refl))
       (test (live₁ c))
     where
-      after : Stepped c → follow live₁ next₁ k (next₂ c) ≡ follow live₂ next₂ k (next₂ c) → follow live₁ next₁ k (next₁ c) ≡ follow live₂ next₂ k (next₂ c)
+      after : Stepped c → follow live₁ next₁ k (next₂ c) ≡ follow live₂ next₂ k (next₂ c) →
+          follow live₁ next₁ k (next₁ c) ≡ follow live₂ next₂ k (next₂ c)
       after (inl e) r = rw e r
       after (inr d) r = follow-dead live₁ next₁ k (next₁ c) (d .0) ∙ sym (follow-dead live₂ next₂ k (next₂ c) (d .1))
 
@@ -263,7 +273,8 @@ module _ (live₁ live₂ : ℕ → Bool) (next₁ next₂ : ℕ → ℕ) (same 
       (λ f. rw (sym (same c)) (rw f refl))
       (test (live₁ c))
     where
-      after : Stepped c → endsBy live₁ next₁ k (next₂ c) ≡ endsBy live₂ next₂ k (next₂ c) → endsBy live₁ next₁ k (next₁ c) ≡ endsBy live₂ next₂ k (next₂ c)
+      after : Stepped c → endsBy live₁ next₁ k (next₂ c) ≡ endsBy live₂ next₂ k (next₂ c) →
+          endsBy live₁ next₁ k (next₁ c) ≡ endsBy live₂ next₂ k (next₂ c)
       after (inl e) r = rw e r
       after (inr d) r = dead-endsBy live₁ next₁ k (next₁ c) (d .0) ∙ sym (dead-endsBy live₂ next₂ k (next₂ c) (d .1))
 
@@ -281,4 +292,5 @@ module _ (live₁ live₂ : ℕ → Bool) (next₁ next₂ : ℕ → ℕ) (same 
 
   pub same-first-unending : (n : ℕ) → firstUnending live₁ next₁ n ≡ firstUnending live₂ next₂ n
   unfolding firstUnending
-  same-first-unending n = first-ext n (λ c. not (endsBy live₁ next₁ n c)) (λ c. not (endsBy live₂ next₂ n c)) (λ c l. ap not (same-endsBy n c))
+  same-first-unending n =
+      first-ext n (λ c. not (endsBy live₁ next₁ n c)) (λ c. not (endsBy live₂ next₂ n c)) (λ c l. ap not (same-endsBy n c))

@@ -19,7 +19,8 @@ use Rattle.route_laws.specs.Ends.{EndsIn, Ends, lastMark}
 use Rattle.route_laws.specs.Receivers.{receivers, nextIn, liveIn, liveOf, nextOf, Marks, AllCodes}
 use Rattle.route_laws.specs.Starts.{cut, startOf, OnRoutes}
 use Rattle.route_laws.proofs.Routes.{follow-dead, ends-before, dead-ends, route-step, last-dead, last-on, last-end}
-use Rattle.route_laws.proofs.Receivers.{live-of, dead-of, off-dead, live-below, receivers-live, receivers-marks, length-receivers, same-route}
+use Rattle.route_laws.proofs.Receivers.{live-of, dead-of, off-dead, live-below, receivers-live, receivers-marks, length-receivers}
+use Rattle.route_laws.proofs.Receivers.{same-route}
 
 module _ (n : ℕ) (starts marks : List ℕ) where
   pub length-cut : length (cut n starts marks) ≡ n
@@ -41,23 +42,41 @@ module _ (n : ℕ) (starts marks : List ℕ) where
     unfolding liveIn
     cut-live c = go (decLt c n) (test (ltb 0 (getD starts c 0)))
       where
-        go : Dec (c < n) → (ltb 0 (getD starts c 0) ≡ true) ⊎ (ltb 0 (getD starts c 0) ≡ false) → liveIn n (cut n starts marks) c ≡ liveIn n marks c
-        go (yes h) (inl t) = live-of n (cut n starts marks) c (let e = cut-here c h t in omega arith) ∙ sym (on c (ltb-true 0 (getD starts c 0) t))
+        go : Dec (c < n) → (ltb 0 (getD starts c 0) ≡ true) ⊎ (ltb 0 (getD starts c 0) ≡ false) →
+            liveIn n (cut n starts marks) c ≡ liveIn n marks c
+        go (yes h) (inl t) =
+            live-of n (cut n starts marks) c (let e = cut-here c h t in omega arith) ∙ sym (on c (ltb-true 0 (getD starts c 0) t))
         go (yes h) (inr f) = ap (λ (x : ℕ). ltb x (n + 1)) (cut-not c h f)
         go (no f) t = off-dead n (cut n starts marks) length-cut c (omega arith) ∙ sym (off-dead n marks (M .long) c (omega arith))
 
     pub cut-marks : Marks n (cut n starts marks)
-    cut-marks = record { long = length-cut; small = λ c. small c (decLt c n) (test (ltb 0 (getD starts c 0))); on = λ c l. onward c l (decLt c n) (test (ltb 0 (getD starts c 0))) }
+    cut-marks = record {
+      long = length-cut;
+      small = λ c. small c (decLt c n) (test (ltb 0 (getD starts c 0)));
+      on = λ c l. onward c l (decLt c n) (test (ltb 0 (getD starts c 0)));
+    }
       where
-        small : (c : ℕ) → Dec (c < n) → (ltb 0 (getD starts c 0) ≡ true) ⊎ (ltb 0 (getD starts c 0) ≡ false) → nextIn n (cut n starts marks) c ≤ n + 1
+        small : (c : ℕ) → Dec (c < n) → (ltb 0 (getD starts c 0) ≡ true) ⊎ (ltb 0 (getD starts c 0) ≡ false) →
+            nextIn n (cut n starts marks) c ≤ n + 1
         small c (yes h) (inl t) = let e = cut-here c h t in omega arith
         small c (yes h) (inr f) = let e = cut-not c h f in let m = M .small c in omega arith
-        small c (no f) t = let e : nextIn n (cut n starts marks) c ≡ n + 1 = List·getD-eq-default (cut n starts marks) (n + 1) (let l = length-cut in let q : length (cut n starts marks) ≤ c = omega arith in q) in omega arith
+        small c (no f) t =
+            let e : nextIn n (cut n starts marks) c ≡ n + 1 =
+            List·getD-eq-default (cut n starts marks) (n + 1)
+            (let l = length-cut in let q : length (cut n starts marks) ≤ c = omega arith in q) in
+            omega arith
 
-        onward : (c : ℕ) → nextIn n (cut n starts marks) c < n → Dec (c < n) → (ltb 0 (getD starts c 0) ≡ true) ⊎ (ltb 0 (getD starts c 0) ≡ false) → liveIn n (cut n starts marks) (nextIn n (cut n starts marks) c) ≡ true
+        onward : (c : ℕ) → nextIn n (cut n starts marks) c < n → Dec (c < n) →
+            (ltb 0 (getD starts c 0) ≡ true) ⊎ (ltb 0 (getD starts c 0) ≡ false) →
+            liveIn n (cut n starts marks) (nextIn n (cut n starts marks) c) ≡ true
         onward c l (yes h) (inl t) = let e = cut-here c h t in let z : ⊥ = omega arith in absurd z
         onward c l (yes h) (inr f) = let e = cut-not c h f in cut-live (nextIn n (cut n starts marks) c) ∙ rw e (M .on c (omega arith))
-        onward c l (no f) t = let e : nextIn n (cut n starts marks) c ≡ n + 1 = List·getD-eq-default (cut n starts marks) (n + 1) (let l = length-cut in let q : length (cut n starts marks) ≤ c = omega arith in q) in let z : ⊥ = omega arith in absurd z
+        onward c l (no f) t =
+            let e : nextIn n (cut n starts marks) c ≡ n + 1 =
+            List·getD-eq-default (cut n starts marks) (n + 1)
+            (let l = length-cut in let q : length (cut n starts marks) ≤ c = omega arith in q) in
+            let z : ⊥ = omega arith in
+            absurd z
 
     below : (c : ℕ) → liveIn n marks c ≡ true → c < n
     below = live-below n marks (M .long)
@@ -69,11 +88,16 @@ module _ (n : ℕ) (starts marks : List ℕ) where
     off = off-dead n (cut n starts marks) length-cut n (omega arith)
 
     -- a route that ends still ends
-    pub cut-ends : (k c : ℕ) → EndsIn (liveIn n marks) (nextIn n marks) k c → Ends (liveIn n (cut n starts marks)) (nextIn n (cut n starts marks)) c
+    pub cut-ends : (k c : ℕ) → EndsIn (liveIn n marks) (nextIn n marks) k c →
+        Ends (liveIn n (cut n starts marks)) (nextIn n (cut n starts marks)) c
     cut-ends zero c a = dead-ends (liveIn n (cut n starts marks)) (nextIn n (cut n starts marks)) c (cut-live c ∙ a)
-    cut-ends (suc k) c (t, a) = ends-before (liveIn n (cut n starts marks)) (nextIn n (cut n starts marks)) c (cut-live c ∙ t) (after (test (ltb 0 (getD starts c 0))) (cut-ends k (nextIn n marks c) a))
+    cut-ends (suc k) c (t, a) =
+        ends-before (liveIn n (cut n starts marks)) (nextIn n (cut n starts marks)) c (cut-live c ∙ t)
+        (after (test (ltb 0 (getD starts c 0))) (cut-ends k (nextIn n marks c) a))
       where
-        after : (ltb 0 (getD starts c 0) ≡ true) ⊎ (ltb 0 (getD starts c 0) ≡ false) → Ends (liveIn n (cut n starts marks)) (nextIn n (cut n starts marks)) (nextIn n marks c) → Ends (liveIn n (cut n starts marks)) (nextIn n (cut n starts marks)) (nextIn n (cut n starts marks) c)
+        after : (ltb 0 (getD starts c 0) ≡ true) ⊎ (ltb 0 (getD starts c 0) ≡ false) →
+            Ends (liveIn n (cut n starts marks)) (nextIn n (cut n starts marks)) (nextIn n marks c) →
+            Ends (liveIn n (cut n starts marks)) (nextIn n (cut n starts marks)) (nextIn n (cut n starts marks) c)
         after (inl s) r = rw (cut-here c (below c t) s) (dead-ends (liveIn n (cut n starts marks)) (nextIn n (cut n starts marks)) n off)
         after (inr s) r = rw (cut-not c (below c t) s) r
 
@@ -82,17 +106,21 @@ module _ (n : ℕ) (starts marks : List ℕ) where
 
     start-here : (c : ℕ) → startOf starts (c + 1) ≡ getD starts c 0
     unfolding startOf
-    start-here c = cond-true _ _ (lt-ltb 0 (c + 1) (omega arith)) ∙ ap (λ (x : ℕ). getD starts x 0) (let e : c + 1 - 1 ≡ c = omega arith in e)
+    start-here c =
+        cond-true _ _ (lt-ltb 0 (c + 1) (omega arith)) ∙ ap (λ (x : ℕ). getD starts x 0) (let e : c + 1 - 1 ≡ c = omega arith in e)
 
     start-none : startOf starts 0 ≡ 0
     unfolding startOf
     start-none = refl
 
-    pub first-start : (k c : ℕ) → EndsIn (liveIn n marks) (nextIn n marks) k c → firstStart starts (follow (liveIn n marks) (nextIn n marks) n c) ≡ startOf starts (lastCut c)
+    pub first-start : (k c : ℕ) → EndsIn (liveIn n marks) (nextIn n marks) k c →
+        firstStart starts (follow (liveIn n marks) (nextIn n marks) n c) ≡ startOf starts (lastCut c)
     unfolding firstStart
     first-start zero c a =
         ap (firstStart starts) (follow-dead (liveIn n marks) (nextIn n marks) n c a)
-        ∙ sym (ap (startOf starts) (last-dead (liveIn n (cut n starts marks)) (nextIn n (cut n starts marks)) n cut-below c (cut-live c ∙ a)) ∙ start-none)
+        ∙ sym
+        (ap (startOf starts) (last-dead (liveIn n (cut n starts marks)) (nextIn n (cut n starts marks)) n cut-below c (cut-live c ∙ a))
+        ∙ start-none)
     first-start (suc k) c (t, a) =
         ap (firstStart starts) (route-step (liveIn n marks) (nextIn n marks) n below c (suc k, (t, a)) t)
         ∙ after (test (ltb 0 (getD starts c 0))) (test (liveIn n marks (nextIn n marks c))) (first-start k (nextIn n marks c) a)
@@ -107,33 +135,64 @@ module _ (n : ℕ) (starts marks : List ℕ) where
         E = cut-ends (suc k) c (t, a)
 
         own : liveIn n (cut n starts marks) (nextIn n (cut n starts marks) c) ≡ false → startOf starts (lastCut c) ≡ getD starts c 0
-        own d = ap (startOf starts) (last-end (liveIn n (cut n starts marks)) (nextIn n (cut n starts marks)) n cut-below c u d) ∙ start-here c
+        own d =
+            ap (startOf starts) (last-end (liveIn n (cut n starts marks)) (nextIn n (cut n starts marks)) n cut-below c u d) ∙ start-here c
 
-        after : (ltb 0 (getD starts c 0) ≡ true) ⊎ (ltb 0 (getD starts c 0) ≡ false) → (liveIn n marks (nextIn n marks c) ≡ true) ⊎ (liveIn n marks (nextIn n marks c) ≡ false) → firstStart starts (follow (liveIn n marks) (nextIn n marks) n (nextIn n marks c)) ≡ startOf starts (lastCut (nextIn n marks c)) → cond (ltb 0 (getD starts c 0)) (getD starts c 0) (firstStart starts (follow (liveIn n marks) (nextIn n marks) n (nextIn n marks c))) ≡ startOf starts (lastCut c)
+        after : (ltb 0 (getD starts c 0) ≡ true) ⊎ (ltb 0 (getD starts c 0) ≡ false) →
+            (liveIn n marks (nextIn n marks c) ≡ true) ⊎ (liveIn n marks (nextIn n marks c) ≡ false) →
+            firstStart starts (follow (liveIn n marks) (nextIn n marks) n (nextIn n marks c))
+            ≡ startOf starts (lastCut (nextIn n marks c)) →
+            cond (ltb 0 (getD starts c 0)) (getD starts c 0)
+            (firstStart starts (follow (liveIn n marks) (nextIn n marks) n (nextIn n marks c))) ≡ startOf starts (lastCut c)
         after (inl s) v r = cond-true _ _ s ∙ sym (own (rw (cut-here c h s) off))
         after (inr s) (inl v) r =
             let q = cut-not c h s in
-            cond-false _ _ s ∙ r ∙ ap (startOf starts) (sym (last-on (liveIn n (cut n starts marks)) (nextIn n (cut n starts marks)) n cut-below c E u (rw q (cut-live (nextIn n marks c) ∙ v)) ∙ ap lastCut q))
+            cond-false _ _ s
+            ∙ r
+            ∙ ap (startOf starts)
+            (sym (last-on (liveIn n (cut n starts marks)) (nextIn n (cut n starts marks)) n cut-below c E u
+            (rw q (cut-live (nextIn n marks c) ∙ v)) ∙ ap lastCut q))
         after (inr s) (inr v) r =
             let q = cut-not c h s in
             let z : getD starts c 0 ≡ 0 = (let b = ltb-false 0 (getD starts c 0) s in omega arith) in
             let d : liveIn n (cut n starts marks) (nextIn n marks c) ≡ false = cut-live (nextIn n marks c) ∙ v in
-            cond-false _ _ s ∙ r ∙ ap (startOf starts) (last-dead (liveIn n (cut n starts marks)) (nextIn n (cut n starts marks)) n cut-below (nextIn n marks c) d) ∙ start-none ∙ sym (own (rw q d) ∙ z)
+            cond-false _ _ s
+            ∙ r
+            ∙ ap (startOf starts)
+            (last-dead (liveIn n (cut n starts marks)) (nextIn n (cut n starts marks)) n cut-below (nextIn n marks c) d)
+            ∙ start-none
+            ∙ sym (own (rw q d) ∙ z)
 
 -- ---- of a sheet of codes
 module _ (g : Grid) (codes starts : List ℕ) (long : length codes ≡ size g) where
   -- question 13, answered yes
-  pub on-routes : length starts ≡ size g → AllCodes codes → firstBadStart g codes starts ≡ size g → OnRoutes (size g) starts (receivers g codes)
+  pub on-routes : length starts ≡ size g → AllCodes codes → firstBadStart g codes starts ≡ size g →
+      OnRoutes (size g) starts (receivers g codes)
   unfolding firstBadStart
   on-routes same all e c h = receivers-live g codes long c ∙ go (decLt c (size g))
     where
       go : Dec (c < size g) → hasCode codes c ≡ true
-      go (yes l) = ⊎-elim (λ z. true-false (lt-ltb 0 (getD starts c 0) h) (and-rest-false (eqb (getD codes c 0) 0) (ltb 0 (getD starts c 0)) (borrow.Author.Tests.eq-eqb (getD codes c 0) 0 z) (first-all (size g) (λ c. eqb (getD codes c 0) 0 && ltb 0 (getD starts c 0)) e c l))) (λ t. t) (all c)
-      go (no f) = let z : getD starts c 0 ≡ 0 = List·getD-eq-default starts 0 (let q : length starts ≤ c = omega arith in q) in let w : ⊥ = omega arith in absurd w
+      go (yes l) =
+          ⊎-elim (λ z. true-false (lt-ltb 0 (getD starts c 0) h)
+          (and-rest-false (eqb (getD codes c 0) 0) (ltb 0 (getD starts c 0)) (borrow.Author.Tests.eq-eqb (getD codes c 0) 0 z)
+          (first-all (size g) (λ c. eqb (getD codes c 0) 0 && ltb 0 (getD starts c 0)) e c l))) (λ t. t) (all c)
+      go (no f) =
+          let z : getD starts c 0 ≡ 0 = List·getD-eq-default starts 0 (let q : length starts ≤ c = omega arith in q) in
+          let w : ⊥ = omega arith in
+          absurd w
 
   -- the watersheds, where every route ends
-  pub watersheds-are : OnRoutes (size g) starts (receivers g codes) → ((c : ℕ) → Ends (liveOf g codes) (nextOf g codes) c) → watersheds g codes starts ≡ table (size g) (λ c. startOf starts (lastMark (liveIn (size g) (cut (size g) starts (receivers g codes))) (nextIn (size g) (cut (size g) starts (receivers g codes))) (size g) c))
+  pub watersheds-are : OnRoutes (size g) starts (receivers g codes) → ((c : ℕ) → Ends (liveOf g codes) (nextOf g codes) c) →
+      watersheds g codes starts
+      ≡ table (size g)
+      (λ c. startOf starts
+      (lastMark (liveIn (size g) (cut (size g) starts (receivers g codes))) (nextIn (size g) (cut (size g) starts (receivers g codes)))
+      (size g) c))
   unfolding watersheds
   watersheds-are on ends =
-      table-ext (size g) (λ c. firstStart starts (route g codes c)) (λ c. startOf starts (lastMark (liveIn (size g) (cut (size g) starts (receivers g codes))) (nextIn (size g) (cut (size g) starts (receivers g codes))) (size g) c))
-      (λ c h. ap (firstStart starts) (sym (same-route g codes long (size g) c)) ∙ first-start (size g) starts (receivers g codes) (receivers-marks g codes long) on (ends c .0) c (ends c .1))
+      table-ext (size g) (λ c. firstStart starts (route g codes c))
+      (λ c. startOf starts
+      (lastMark (liveIn (size g) (cut (size g) starts (receivers g codes))) (nextIn (size g) (cut (size g) starts (receivers g codes)))
+      (size g) c))
+      (λ c h. ap (firstStart starts) (sym (same-route g codes long (size g) c))
+      ∙ first-start (size g) starts (receivers g codes) (receivers-marks g codes long) on (ends c .0) c (ends c .1))

@@ -1,5 +1,5 @@
--- A walk in place comes to the last cell of every route. A place that is not above n still holds the receiver, so the steps of a walk are steps of
--- the route; what it finds at its stop is so the result for its start, and for every cell on the way.
+-- A walk in place comes to the last cell of every route. A place that is not above n still holds the receiver, so the steps of a walk are
+-- steps of the route; what it finds at its stop is so the result for its start, and for every cell on the way.
 use mathlib.Core.Path.{_≡_, refl, sym, _∙_, ap, subst}
 use mathlib.Core.Logic.{_⊎_, inl, inr, ⊎-elim}
 use mathlib.Core.Bool.{Bool, true, false, cond}
@@ -19,7 +19,8 @@ use Rattle.grid_laws.proofs.Below.{sum-change}
 use Rattle.route_laws.specs.Ends.{EndsIn, Ends, Reaches, lastMark, firstUnending}
 use Rattle.route_laws.specs.Receivers.{nextIn, liveIn, Marks}
 use Rattle.route_laws.specs.Walking.{Steps, Descent, Settled, Settling, Stepped, liveAt, nextAt, Done, WalkedTo, Walked}
-use Rattle.route_laws.proofs.Routes.{ends-before, dead-ends, reached-ends, ends-reached, too-far, last-end, last-dead, last-reached, first-unending-is, first-unending-none}
+use Rattle.route_laws.proofs.Routes.{ends-before, dead-ends, reached-ends, ends-reached, too-far, last-end, last-dead, last-reached}
+use Rattle.route_laws.proofs.Routes.{first-unending-is, first-unending-none}
 use Rattle.route_laws.proofs.Receivers.{mark-at, live-of, dead-of, next-within, next-none, live-below, off-dead}
 
 -- ---- steps in the buffer
@@ -44,7 +45,8 @@ module _ (n : ℕ) (t : List ℕ) (k s c : ℕ) (path : Steps n t k s c) (on : c
 -- what is found lies above n, and fits a word
 pub found-above : (n : ℕ) (t : List ℕ) (s v : ℕ) → Descent n t s v → 0 < v → n < v
 found-above n t s v D h =
-    ⊎-elim (λ w. let e = w .0 in omega arith) (⊎-elim (λ w. let a = w .0 in let e = w .1 in omega arith) (λ w. let e = w .1 in omega arith)) (D .found)
+    ⊎-elim (λ w. let e = w .0 in omega arith)
+    (⊎-elim (λ w. let a = w .0 in let e = w .1 in omega arith) (λ w. let e = w .1 in omega arith)) (D .found)
 
 pub found-small : (n b : ℕ) (t : List ℕ) (s v : ℕ) → Descent n t s v → ((c : ℕ) → getD t c 0 < b) → n + n + 2 ≤ b → v < b
 found-small n b t s v D f h =
@@ -60,7 +62,8 @@ freePlaces n t = sumBelow n (λ c. cond (leb (getD t c 0) n) 1 0)
 pub fewer-free : (n v : ℕ) (t : List ℕ) (c : ℕ) → c < n → n ≤ length t → getD t c 0 ≤ n → n < v → freePlaces n (set t c v) < freePlaces n t
 unfolding freePlaces
 fewer-free n v t c h l free big =
-    let q = sum-change n (λ x. cond (leb (getD t x 0) n) 1 0) (λ x. cond (leb (getD (set t c v) x 0) n) 1 0) c h (λ j f. ap (λ (y : ℕ). cond (leb y n) 1 0) (getD-set-other t c j v 0 f)) in
+    let q = sum-change n (λ x. cond (leb (getD t x 0) n) 1 0) (λ x. cond (leb (getD (set t c v) x 0) n) 1 0) c h
+    (λ j f. ap (λ (y : ℕ). cond (leb y n) 1 0) (getD-set-other t c j v 0 f)) in
     let a : _≡_ {A = ℕ} (cond (leb (getD t c 0) n) 1 0) 1 = cond-true 1 0 (le-leb (getD t c 0) n free) in
     let e : getD (set t c v) c 0 ≡ v = getD-set-same t c v 0 (omega arith) in
     let b : _≡_ {A = ℕ} (cond (leb (getD (set t c v) c 0) n) 1 0) 0 = cond-false 1 0 (lt-leb (getD (set t c v) c 0) n (omega arith)) in
@@ -83,14 +86,28 @@ module _ (n s v : ℕ) (t₀ : List ℕ) where
           same-length = length-set t c v ∙ S .same-length;
           each = λ x. each x (ℕ-discrete x c) (S .each x);
           start = inr (start (ℕ-discrete s c) (S .start));
-          path = λ q. (suc (S .path hc .0), subst (λ (y : ℕ). Steps n t₀ (suc (S .path hc .0)) s y) (sym e) (steps-more n t₀ (S .path hc .0) s c (S .path hc .1) hc (let i = e in omega arith)));
+          path =
+              λ q. (
+                suc (S .path hc .0),
+                subst (λ (y : ℕ). Steps n t₀ (suc (S .path hc .0)) s y) (sym e)
+                    (steps-more n t₀ (S .path hc .0) s c (S .path hc .1) hc (let i = e in omega arith)),
+              );
         }
       where
         here : getD (set t c v) c 0 ≡ v
         here = getD-set-same t c v 0 (omega arith)
 
-        each : (x : ℕ) → Dec (x ≡ c) → (getD t x 0 ≡ getD t₀ x 0) ⊎ ((x < n) × (getD t x 0 ≡ v) × (getD t₀ x 0 ≤ n) × ((k : ℕ) × Steps n t₀ k s x)) → (getD (set t c v) x 0 ≡ getD t₀ x 0) ⊎ ((x < n) × (getD (set t c v) x 0 ≡ v) × (getD t₀ x 0 ≤ n) × ((k : ℕ) × Steps n t₀ k s x))
-        each x (yes q) w = inr (rw q hc, rw q here, rw q (let e = free-place h in omega arith), subst (λ (y : ℕ). (k : ℕ) × Steps n t₀ k s y) (sym q) (S .path hc))
+        each : (x : ℕ) → Dec (x ≡ c) → (getD t x 0 ≡ getD t₀ x 0)
+            ⊎ ((x < n) × (getD t x 0 ≡ v) × (getD t₀ x 0 ≤ n) × ((k : ℕ) × Steps n t₀ k s x)) →
+            (getD (set t c v) x 0 ≡ getD t₀ x 0)
+            ⊎ ((x < n) × (getD (set t c v) x 0 ≡ v) × (getD t₀ x 0 ≤ n) × ((k : ℕ) × Steps n t₀ k s x))
+        each x (yes q) w =
+            inr (
+              rw q hc,
+              rw q here,
+              rw q (let e = free-place h in omega arith),
+              subst (λ (y : ℕ). (k : ℕ) × Steps n t₀ k s y) (sym q) (S .path hc),
+            )
         each x (no f) (inl e) = inl (getD-set-other t c x v 0 f ∙ e)
         each x (no f) (inr w) = inr (w .0, getD-set-other t c x v 0 f ∙ w .1, w .2, w .3)
 
@@ -108,7 +125,8 @@ module _ (n s v : ℕ) (t₀ : List ℕ) where
     settled-off h = settled-by (λ q. let z : ⊥ = omega arith in absurd z)
 
     pub settled-met : n < getD t c 0 → Settled n s v t₀ t
-    settled-met h = settled-by (λ q. ⊎-elim (λ e. let i : n < getD t s 0 = rw q at h in let z : ⊥ = omega arith in absurd z) (λ w. w .1) (S .each s))
+    settled-met h =
+        settled-by (λ q. ⊎-elim (λ e. let i : n < getD t s 0 = rw q at h in let z : ⊥ = omega arith in absurd z) (λ w. w .1) (S .each s))
 
 -- ---- what the steps of a walk say of the routes
 module _ (n : ℕ) (t₀ : List ℕ) (M : Marks n (take n t₀)) (long : n ≤ length t₀) where
@@ -132,8 +150,11 @@ module _ (n : ℕ) (t₀ : List ℕ) (M : Marks n (take n t₀)) (long : n ≤ l
 
     reaches : (k a c : ℕ) → Steps n t k a c → Reaches (liveAt n t₀) (nextAt n t₀) k a c
     reaches zero a c e = e
-    reaches (suc k) a c (h, l, r) =
-        (free-live a h (omega arith), subst (λ (x : ℕ). Reaches (liveAt n t₀) (nextAt n t₀) k x c) (holds a h (omega arith)) (reaches k (getD t a 0) c r))
+    reaches (suc k) a c (h, l, r) = (
+      free-live a h (omega arith),
+      subst (λ (x : ℕ). Reaches (liveAt n t₀) (nextAt n t₀) k x c) (holds a h (omega arith))
+          (reaches k (getD t a 0) c r),
+    )
 
     stop-live : (k a c : ℕ) → Steps n t k a c → liveAt n t₀ a ≡ true → liveAt n t₀ c ≡ true
     stop-live zero a c e u = subst (λ (x : ℕ). liveAt n t₀ x ≡ true) e u
@@ -156,7 +177,8 @@ module _ (n : ℕ) (t₀ : List ℕ) (M : Marks n (take n t₀)) (long : n ≤ l
         (⊎-elim (λ w. let e = w .1 in let h = w .0 in omega arith) (λ w. let e = w .1 in omega arith))
         (D .found)
 
-    pub landed : (a v : ℕ) → a < n → getD t a 0 ≤ n → 0 < v → Descent n t a v → Ends (liveAt n t₀) (nextAt n t₀) a × (v ≡ n + 1 + lastMark (liveAt n t₀) (nextAt n t₀) n a)
+    pub landed : (a v : ℕ) → a < n → getD t a 0 ≤ n → 0 < v → Descent n t a v →
+        Ends (liveAt n t₀) (nextAt n t₀) a × (v ≡ n + 1 + lastMark (liveAt n t₀) (nextAt n t₀) n a)
     landed a v h l p D = go (D .found)
       where
         c : ℕ
@@ -171,16 +193,25 @@ module _ (n : ℕ) (t₀ : List ℕ) (M : Marks n (take n t₀)) (long : n ≤ l
         uc : liveAt n t₀ (D .stop) ≡ true
         uc = stop-live (D .count) a (D .stop) (D .path) u
 
-        by : Ends (liveAt n t₀) (nextAt n t₀) (D .stop) → v ≡ n + 1 + lastMark (liveAt n t₀) (nextAt n t₀) n (D .stop) → Ends (liveAt n t₀) (nextAt n t₀) a × (v ≡ n + 1 + lastMark (liveAt n t₀) (nextAt n t₀) n a)
-        by E e = (reached-ends (liveAt n t₀) (nextAt n t₀) (D .count) a (D .stop) R E, e ∙ ap (λ (x : ℕ). n + 1 + x) (sym (last-reached (liveAt n t₀) (nextAt n t₀) n below (D .count) a (D .stop) R E uc)))
+        by : Ends (liveAt n t₀) (nextAt n t₀) (D .stop) → v ≡ n + 1 + lastMark (liveAt n t₀) (nextAt n t₀) n (D .stop) →
+            Ends (liveAt n t₀) (nextAt n t₀) a × (v ≡ n + 1 + lastMark (liveAt n t₀) (nextAt n t₀) n a)
+        by E e = (
+          reached-ends (liveAt n t₀) (nextAt n t₀) (D .count) a (D .stop) R E,
+          e
+              ∙ ap (λ (x : ℕ). n + 1 + x) (sym (last-reached (liveAt n t₀) (nextAt n t₀) n below (D .count) a (D .stop) R E uc)),
+        )
 
-        go : ((v ≡ 0) × (n < D .count)) ⊎ (((n < getD t (D .stop) 0) × (v ≡ getD t (D .stop) 0)) ⊎ ((getD t (D .stop) 0 ≡ n) × (v ≡ n + 2 + D .stop))) → Ends (liveAt n t₀) (nextAt n t₀) a × (v ≡ n + 1 + lastMark (liveAt n t₀) (nextAt n t₀) n a)
+        go : ((v ≡ 0) × (n < D .count))
+            ⊎ (((n < getD t (D .stop) 0) × (v ≡ getD t (D .stop) 0)) ⊎ ((getD t (D .stop) 0 ≡ n) × (v ≡ n + 2 + D .stop))) →
+            Ends (liveAt n t₀) (nextAt n t₀) a × (v ≡ n + 1 + lastMark (liveAt n t₀) (nextAt n t₀) n a)
         go (inl w) = let e = w .0 in let z : ⊥ = omega arith in absurd z
         go (inr (inl w)) = let d = done-above (D .stop) (D .on) uc (w .0) in by (d .0) (w .1 ∙ d .1)
         go (inr (inr w)) =
             let q : nextAt n t₀ (D .stop) ≡ n = sym (holds (D .stop) (D .on) (let e = w .0 in omega arith)) ∙ w .0 in
-            let dead : liveAt n t₀ (nextAt n t₀ (D .stop)) ≡ false = off-dead n (take n t₀) long-marks (nextAt n t₀ (D .stop)) (omega arith) in
-            by (ends-before (liveAt n t₀) (nextAt n t₀) (D .stop) uc (dead-ends (liveAt n t₀) (nextAt n t₀) (nextAt n t₀ (D .stop)) dead)) (w .1 ∙ let e = last-end (liveAt n t₀) (nextAt n t₀) n below (D .stop) uc dead in omega arith)
+            let dead : liveAt n t₀ (nextAt n t₀ (D .stop)) ≡ false =
+            off-dead n (take n t₀) long-marks (nextAt n t₀ (D .stop)) (omega arith) in
+            by (ends-before (liveAt n t₀) (nextAt n t₀) (D .stop) uc (dead-ends (liveAt n t₀) (nextAt n t₀) (nextAt n t₀ (D .stop)) dead))
+            (w .1 ∙ let e = last-end (liveAt n t₀) (nextAt n t₀) n below (D .stop) uc dead in omega arith)
 
     -- a cell without a code is done
     done-none : (c : ℕ) → c < n → n < getD t c 0 → Done n t₀ t c
@@ -196,12 +227,15 @@ module _ (n : ℕ) (t₀ : List ℕ) (M : Marks n (take n t₀)) (long : n ≤ l
     -- ---- one start more
     module _ (hs : s < n) where
       pub stepped : (t′ : List ℕ) → Stepped n s t t′ true → WalkedTo n (s + 1) t₀ t′
-      stepped t′ (inl w) = subst (λ (l : List ℕ). WalkedTo n (s + 1) t₀ l) (sym (w .0)) (record { same-length = W .same-length; right = W .right; done = λ c h. one c h (ℕ-discrete c s); after = W .after })
+      stepped t′ (inl w) =
+          subst (λ (l : List ℕ). WalkedTo n (s + 1) t₀ l) (sym (w .0))
+          (record { same-length = W .same-length; right = W .right; done = λ c h. one c h (ℕ-discrete c s); after = W .after })
         where
           one : (c : ℕ) → c < s + 1 → Dec (c ≡ s) → Done n t₀ t c
           one c h (yes q) = subst (λ (x : ℕ). Done n t₀ t x) (sym q) (done-none s hs (w .1))
           one c h (no f) = W .done c (omega arith)
-      stepped t′ (inr (l, (v, p, D, S))) = record { same-length = S .same-length ∙ W .same-length; right = right; done = λ c h. one c h (ℕ-discrete c s); after = after }
+      stepped t′ (inr (l, (v, p, D, S))) =
+          record { same-length = S .same-length ∙ W .same-length; right = right; done = λ c h. one c h (ℕ-discrete c s); after = after }
         where
           L : Ends (liveAt n t₀) (nextAt n t₀) s × (v ≡ n + 1 + lastMark (liveAt n t₀) (nextAt n t₀) n s)
           L = landed s v hs l p D
@@ -216,7 +250,9 @@ module _ (n : ℕ) (t₀ : List ℕ) (M : Marks n (take n t₀)) (long : n ≤ l
           kept x d = ⊎-elim (λ e. (d .0, e ∙ d .1)) (λ w. written x (w .0) (w .1) (w .2) (w .3)) (S .each x)
 
           right : (x : ℕ) → x < n → (getD t′ x 0 ≡ getD t₀ x 0) ⊎ Done n t₀ t′ x
-          right x h = ⊎-elim (λ e. ⊎-elim (λ q. inl (e ∙ q)) (λ d. inr (kept x d)) (W .right x h)) (λ w. inr (written x (w .0) (w .1) (w .2) (w .3))) (S .each x)
+          right x h =
+              ⊎-elim (λ e. ⊎-elim (λ q. inl (e ∙ q)) (λ d. inr (kept x d)) (W .right x h))
+              (λ w. inr (written x (w .0) (w .1) (w .2) (w .3))) (S .each x)
 
           one : (c : ℕ) → c < s + 1 → Dec (c ≡ s) → Done n t₀ t′ c
           one c h (yes q) = subst (λ (x : ℕ). Done n t₀ t′ x) (sym q) (written s hs (S .start) l (0, refl))
@@ -234,11 +270,18 @@ module _ (n : ℕ) (t₀ : List ℕ) (M : Marks n (take n t₀)) (long : n ≤ l
           }
 
   pub walked-none : WalkedTo n 0 t₀ t₀
-  walked-none = record { same-length = refl; right = λ c h. inl refl; done = λ c h. let z : ⊥ = omega arith in absurd z; after = λ k h. refl }
+  walked-none = record {
+    same-length = refl;
+    right = λ c h. inl refl;
+    done = λ c h. let z : ⊥ = omega arith in absurd z;
+    after = λ k h. refl;
+  }
 
   pub walked-all : (t : List ℕ) → WalkedTo n n t₀ t → Walked n t₀ t n
   walked-all t W =
       record {
         first = sym (first-unending-none (liveAt n t₀) (nextAt n t₀) n below (λ k h. W .done k h .0));
-        lasts = λ e. is-front n (λ c. n + 1 + lastMark (liveAt n t₀) (nextAt n t₀) n c) t₀ t (W .same-length) long (λ c h. W .done c h .1) (W .after);
+        lasts =
+            λ e. is-front n (λ c. n + 1 + lastMark (liveAt n t₀) (nextAt n t₀) n c) t₀ t (W .same-length) long (λ c h. W .done c h .1)
+            (W .after);
       }

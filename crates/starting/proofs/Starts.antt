@@ -45,7 +45,8 @@ difference-above t a (suc b) = ⊎-elim below above (test (ltb a (suc b)))
 never-above : (t : ℕ) → ltZ (pos t) (pos 0) ≡ false
 never-above t = le-ltb t 0 (omega arith)
 
-module _ (g : Grid) (codes counts : List ℕ) (threshold : ℕ) (t : List ℕ) (long : length codes ≡ size g) (marks : take (size g) t ≡ receivers g codes) where
+module _ (g : Grid) (codes counts : List ℕ) (threshold : ℕ) (t : List ℕ) (long : length codes ≡ size g)
+    (marks : take (size g) t ≡ receivers g codes) where
   mark-is : (c : ℕ) → c < size g → markAt t c ≡ receiverMark g codes c
   mark-is c l = sym (getD-take (size g) t c 0 l) ∙ ap (λ (x : List ℕ). getD x c 0) marks ∙ at-receivers g codes long c 0 l
 
@@ -53,7 +54,8 @@ module _ (g : Grid) (codes counts : List ℕ) (threshold : ℕ) (t : List ℕ) (
   unfolding startBy isStart delta
   start-is c l = by-codes (test (hasCode codes c)) (test (hasCode codes (receiver g codes c)))
     where
-      flows : ltb (markAt t c) (size g) ≡ true → (hasCode codes c && hasCode codes (receiver g codes c)) ≡ true → markAt t c ≡ receiver g codes c → startBy (size g) t counts threshold c ≡ isStart g codes counts threshold c
+      flows : ltb (markAt t c) (size g) ≡ true → (hasCode codes c && hasCode codes (receiver g codes c)) ≡ true →
+          markAt t c ≡ receiver g codes c → startBy (size g) t counts threshold c ≡ isStart g codes counts threshold c
       flows y b e =
           ap (λ (x : Bool). x && (ltb threshold (getD counts c 0) && ltb (getD counts c 0 + threshold) (getD counts (markAt t c) 0))) y
           ∙ ap (λ (x : Bool). ltb threshold (getD counts c 0) && x)
@@ -61,18 +63,25 @@ module _ (g : Grid) (codes counts : List ℕ) (threshold : ℕ) (t : List ℕ) (
           ∙ sym (difference-above threshold (getD counts (receiver g codes c) 0) (getD counts c 0))
           ∙ ap (ltZ (pos threshold)) (sym (cond-true (pos (getD counts (receiver g codes c) 0) -ℤ pos (getD counts c 0)) (pos 0) b)))
 
-      ends : size g ≤ markAt t c → (hasCode codes c && hasCode codes (receiver g codes c)) ≡ false → startBy (size g) t counts threshold c ≡ isStart g codes counts threshold c
+      ends : size g ≤ markAt t c → (hasCode codes c && hasCode codes (receiver g codes c)) ≡ false →
+          startBy (size g) t counts threshold c ≡ isStart g codes counts threshold c
       ends h b =
           and-false-left _ (le-ltb (markAt t c) (size g) h)
-          ∙ sym (and-false-right (ltb threshold (getD counts c 0)) (ap (ltZ (pos threshold)) (cond-false (pos (getD counts (receiver g codes c) 0) -ℤ pos (getD counts c 0)) (pos 0) b) ∙ never-above threshold))
+          ∙ sym (and-false-right (ltb threshold (getD counts c 0))
+          (ap (ltZ (pos threshold)) (cond-false (pos (getD counts (receiver g codes c) 0) -ℤ pos (getD counts c 0)) (pos 0) b)
+          ∙ never-above threshold))
 
-      by-codes : (hasCode codes c ≡ true) ⊎ (hasCode codes c ≡ false) → (hasCode codes (receiver g codes c) ≡ true) ⊎ (hasCode codes (receiver g codes c) ≡ false) → startBy (size g) t counts threshold c ≡ isStart g codes counts threshold c
+      by-codes : (hasCode codes c ≡ true) ⊎ (hasCode codes c ≡ false) →
+          (hasCode codes (receiver g codes c) ≡ true) ⊎ (hasCode codes (receiver g codes c) ≡ false) →
+          startBy (size g) t counts threshold c ≡ isStart g codes counts threshold c
       by-codes (inl p) (inl q) =
           let e = mark-is c l ∙ mark-next g codes long c p q in
           let h = code-below codes (receiver g codes c) q in
           flows (lt-ltb (markAt t c) (size g) (omega arith)) (and-true p q) e
-      by-codes (inl p) (inr q) = let e = mark-is c l ∙ mark-end g codes long c p q in ends (omega arith) (and-false-right (hasCode codes c) q)
-      by-codes (inr p) q = let e = mark-is c l ∙ mark-none g codes long c p in ends (omega arith) (and-false-left (hasCode codes (receiver g codes c)) p)
+      by-codes (inl p) (inr q) =
+          let e = mark-is c l ∙ mark-end g codes long c p q in ends (omega arith) (and-false-right (hasCode codes c) q)
+      by-codes (inr p) q =
+          let e = mark-is c l ∙ mark-none g codes long c p in ends (omega arith) (and-false-left (hasCode codes (receiver g codes c)) p)
 
   pub count-is : countBelow (size g) (startBy (size g) t counts threshold) ≡ startCount g codes counts threshold
   unfolding startCount
@@ -81,6 +90,7 @@ module _ (g : Grid) (codes counts : List ℕ) (threshold : ℕ) (t : List ℕ) (
   pub starts-are : table (size g) (startNumber (size g) t counts threshold) ≡ starts g codes counts threshold
   unfolding startNumber starts
   starts-are =
-      table-ext (size g) (startNumber (size g) t counts threshold) (λ c. cond (isStart g codes counts threshold c) (countBelow c (isStart g codes counts threshold) + 1) 0)
+      table-ext (size g) (startNumber (size g) t counts threshold)
+      (λ c. cond (isStart g codes counts threshold c) (countBelow c (isStart g codes counts threshold) + 1) 0)
       (λ c l. ap₂ (λ (b : Bool) (k : ℕ). cond b (k + 1) 0) (start-is c l)
       (count-ext c (startBy (size g) t counts threshold) (isStart g codes counts threshold) (λ k h. start-is k (omega arith))))

@@ -1,7 +1,7 @@
 // Table 5. "Cells with count and delta both above the threshold get 1, 2, 3 and so on by rising cell number, others 0": from the marks at
-// the front of a lent tail, which say where each cell flows, one scan numbers the starts. "delta is the count of the cell flowed into minus
-// the cell's own": it is above the threshold where the one count is above the sum of the other and the threshold, in 64 bits, so nothing
-// wraps. `proofs/Starts` shows that these are the cells of the definition.
+// the front of a lent tail, which say where each cell flows, one scan numbers the starts. "delta is the count of the cell flowed into
+// minus the cell's own": it is above the threshold where the one count is above the sum of the other and the threshold, in 64 bits, so
+// nothing wraps. `proofs/Starts` shows that these are the cells of the definition.
 ghost use mathlib.Core.Path.{_≡_};
 ghost use mathlib.Core.Bool.{Bool, true, false, cond};
 ghost use Prim.Native.Nat.{ℕ, _+_, _<_, _≤_};
@@ -55,7 +55,8 @@ fn number_cell(
     requires { ⌜ length (now starts) ≡ n ⌝ }
     requires { ⌜ c < n ⌝ }
     requires { ⌜ found < 16777216 ⌝ }
-    ensures { λ r. ⌜ now (starts .exit) ≡ set (now (starts .entry)) c (cond (startBy n (now (tail .entry)) (now (counts .entry)) threshold c) (found + 1) 0) ⌝ }
+    ensures { λ r. ⌜ now (starts .exit)
+        ≡ set (now (starts .entry)) c (cond (startBy n (now (tail .entry)) (now (counts .entry)) threshold c) (found + 1) 0) ⌝ }
     ensures { λ r. ⌜ r ≡ found + cond (startBy n (now (tail .entry)) (now (counts .entry)) threshold c) 1 0 ⌝ }
 {
     if !is_start(n, tail, counts, threshold, c) {

@@ -21,7 +21,8 @@ use Rattle.starting.proofs.Starts.{count-is, starts-are}
 use Rattle.checks.specs.Sizes.{Fits}
 use Rattle.starts.specs.Into.{Started}
 
-module _ (g : Grid) (codes t₀ t₁ : List ℕ) (fits : Fits g) (long : length codes ≡ size g) (room : 2 * size g ≤ length t₀) (same : length t₁ ≡ length t₀)
+module _ (g : Grid) (codes t₀ t₁ : List ℕ) (fits : Fits g) (long : length codes ≡ size g) (room : 2 * size g ≤ length t₀)
+    (same : length t₁ ≡ length t₀)
     (written : t₁ ≡ receivers g codes ++ drop (size g) t₀) where
   pub small : size g < 16777216
   small = let h = fits .cells in omega arith
@@ -42,16 +43,20 @@ module _ (g : Grid) (codes t₀ t₁ : List ℕ) (fits : Fits g) (long : length 
     first-is : first ≡ firstEndless g codes
     first-is = C .first ∙ tail-first g codes long t₁ marks-are
 
-    pub endless-started : first < size g → Started g codes counts threshold starts₀ starts₀ (record { number = 12; place = first; count = 0 })
+    pub endless-started : first < size g →
+        Started g codes counts threshold starts₀ starts₀ (record { number = 12; place = first; count = 0 })
     endless-started h =
         let e = first-is in
         record {
-          answer = sym (cell-no 12 (firstEndless g codes) g accepted (omega arith) ∙ ap (λ (p : ℕ). record { number = 12; place = p }) (sym e));
+          answer =
+              sym (cell-no 12 (firstEndless g codes) g accepted (omega arith) ∙ ap (λ (p : ℕ). record { number = 12; place = p }) (sym e));
           count = refl;
           result = refl;
         }
 
-    pub all-started : size g ≤ first → (starts₁ : List ℕ) (found : ℕ) → starts₁ ≡ table (size g) (startNumber (size g) t₂ counts threshold) → found ≡ countBelow (size g) (startBy (size g) t₂ counts threshold)
+    pub all-started : size g ≤ first → (starts₁ : List ℕ) (found : ℕ) →
+        starts₁ ≡ table (size g) (startNumber (size g) t₂ counts threshold) →
+        found ≡ countBelow (size g) (startBy (size g) t₂ counts threshold)
         → Started g codes counts threshold starts₀ starts₁ (record { number = 0; place = 0; count = found })
     all-started h starts₁ found e q =
         let i = first-is in

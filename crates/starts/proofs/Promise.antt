@@ -38,17 +38,22 @@ half-room n w h =
     omega arith
 
 module _ (g : Grid) (codes counts : List ℕ) (threshold : ℕ) (s₀ w₀ : List ℕ) (r : Answer)
-    (asked : r ≡ askSheets g (length codes ∷ length counts ∷ []) (length s₀ ∷ length s₀ ∷ length s₀ ∷ length s₀ ∷ []) (askWork g (length w₀) accepted)) where
-  number-asked : (askSheets g (length codes ∷ length counts ∷ []) (length s₀ ∷ length s₀ ∷ length s₀ ∷ length s₀ ∷ []) (askWork g (length w₀) accepted)) .number ≡ r .number
+    (asked : r ≡ askSheets g (length codes ∷ length counts ∷ []) (length s₀ ∷ length s₀ ∷ length s₀ ∷ length s₀ ∷ [])
+    (askWork g (length w₀) accepted)) where
+  number-asked : (askSheets g (length codes ∷ length counts ∷ []) (length s₀ ∷ length s₀ ∷ length s₀ ∷ length s₀ ∷ [])
+      (askWork g (length w₀) accepted)) .number ≡ r .number
   number-asked = ap (λ (a : Answer). a .number) (sym asked)
 
-  whole : askSheets g (length codes ∷ length counts ∷ []) (length s₀ ∷ length s₀ ∷ length s₀ ∷ length s₀ ∷ []) (askWork g (length w₀) (askCodes g codes accepted)) ≡ startsCheck g codes (length counts) (length s₀) (length w₀)
+  whole : askSheets g (length codes ∷ length counts ∷ []) (length s₀ ∷ length s₀ ∷ length s₀ ∷ length s₀ ∷ [])
+      (askWork g (length w₀) (askCodes g codes accepted)) ≡ startsCheck g codes (length counts) (length s₀) (length w₀)
   unfolding startsCheck
   whole = two-inputs g (length codes) (length counts) (length s₀) (askWork g (length w₀) (askCodes g codes accepted))
 
-  pub refused-promise : (r .number ≡ 0 → ⊥) → StartsPromise g codes counts threshold s₀ s₀ w₀ w₀ (record { number = r .number; place = r .place; count = 0 })
+  pub refused-promise : (r .number ≡ 0 → ⊥) →
+      StartsPromise g codes counts threshold s₀ s₀ w₀ w₀ (record { number = r .number; place = r .place; count = 0 })
   refused-promise n =
-      let f = refused g (length codes ∷ length counts ∷ []) (length s₀ ∷ length s₀ ∷ length s₀ ∷ length s₀ ∷ []) (length w₀) (λ e. n (sym number-asked ∙ e)) in
+      let f = refused g (length codes ∷ length counts ∷ []) (length s₀ ∷ length s₀ ∷ length s₀ ∷ length s₀ ∷ []) (length w₀)
+      (λ e. n (sym number-asked ∙ e)) in
       record {
         answer = asked ∙ sym (f .stands (askCodes g codes accepted)) ∙ whole;
         count = sym (cond-false (startCount g codes counts threshold) 0 (ne-eqb (r .number) 0 n));
@@ -58,14 +63,16 @@ module _ (g : Grid) (codes counts : List ℕ) (threshold : ℕ) (s₀ w₀ : Lis
 
   module _ (yes : r .number ≡ 0) where
     pass : Passed g (length codes ∷ length counts ∷ []) (length s₀ ∷ length s₀ ∷ length s₀ ∷ length s₀ ∷ []) (length w₀)
-    pass = passed g (length codes ∷ length counts ∷ []) (length s₀ ∷ length s₀ ∷ length s₀ ∷ length s₀ ∷ []) (length w₀) (number-asked ∙ yes)
+    pass =
+        passed g (length codes ∷ length counts ∷ []) (length s₀ ∷ length s₀ ∷ length s₀ ∷ length s₀ ∷ []) (length w₀) (number-asked ∙ yes)
 
     pub sizes : Sizes g codes counts s₀ w₀
     sizes =
         record {
           fits = pass .fits;
           codes-long = have-first (size g) (length codes) (length counts ∷ []) (pass .inputs-have);
-          counts-long = have-first (size g) (length counts) [] (have-rest (size g) (length codes) (length counts ∷ []) (pass .inputs-have));
+          counts-long =
+              have-first (size g) (length counts) [] (have-rest (size g) (length codes) (length counts ∷ []) (pass .inputs-have));
           result-long = have-first (size g) (length s₀) (length s₀ ∷ length s₀ ∷ length s₀ ∷ []) (pass .results-have);
           room = pass .room;
         }
@@ -73,7 +80,8 @@ module _ (g : Grid) (codes counts : List ℕ) (threshold : ℕ) (s₀ w₀ : Lis
     check-is : askCodes g codes accepted ≡ startsCheck g codes (length counts) (length s₀) (length w₀)
     check-is = sym (pass .then (askCodes g codes accepted)) ∙ whole
 
-    pub bad-promise : (bad : ℕ) → bad ≡ firstBadCode g codes → bad < length codes → StartsPromise g codes counts threshold s₀ s₀ w₀ w₀ (record { number = 11; place = bad; count = 0 })
+    pub bad-promise : (bad : ℕ) → bad ≡ firstBadCode g codes → bad < length codes →
+        StartsPromise g codes counts threshold s₀ s₀ w₀ w₀ (record { number = 11; place = bad; count = 0 })
     bad-promise bad e h =
         let l = sizes .codes-long in
         record {
@@ -86,18 +94,24 @@ module _ (g : Grid) (codes counts : List ℕ) (threshold : ℕ) (s₀ w₀ : Lis
     pub none-bad : (bad : ℕ) → bad ≡ firstBadCode g codes → length codes ≤ bad → firstBadCode g codes ≡ size g
     none-bad bad e h = let l = sizes .codes-long in let b = bad-≤ g codes in omega arith
 
-    pub started-promise : firstBadCode g codes ≡ size g → (s₁ w₁ : List ℕ) (k : Counted) → Started g codes counts threshold s₀ s₁ k → length w₁ ≡ length w₀ → StartsPromise g codes counts threshold s₀ s₁ w₀ w₁ k
+    pub started-promise : firstBadCode g codes ≡ size g → (s₁ w₁ : List ℕ) (k : Counted) → Started g codes counts threshold s₀ s₁ k →
+        length w₁ ≡ length w₀ → StartsPromise g codes counts threshold s₀ s₁ w₀ w₁ k
     unfolding askCodes
     started-promise good s₁ w₁ k S same =
         record {
           answer = S .answer ∙ sym (cell-yes 11 (firstBadCode g codes) g (askCell 12 g (firstEndless g codes) accepted) good) ∙ check-is;
           count = S .count;
           result = S .result;
-          work = record { same-length = same; untouched = λ l h. free (cell-cases (firstEndless g codes)) (ap (λ (a : Answer). a .number) (S .answer)) l h };
+          work = record {
+            same-length = same;
+            untouched = λ l h. free (cell-cases (firstEndless g codes)) (ap (λ (a : Answer). a .number) (S .answer)) l h;
+          };
         }
       where
         cell-cases : (first : ℕ) → ((askCell 12 g first accepted) .number ≡ 0) ⊎ ((askCell 12 g first accepted) .number ≡ 12)
-        cell-cases first = ⊎-elim (λ y. inl (ap (λ (a : Answer). a .number) (cond-true accepted (refusal 12 first) y))) (λ y. inr (ap (λ (a : Answer). a .number) (cond-false accepted (refusal 12 first) y))) (test (eqb first (size g)))
+        cell-cases first =
+            ⊎-elim (λ y. inl (ap (λ (a : Answer). a .number) (cond-true accepted (refusal 12 first) y)))
+            (λ y. inr (ap (λ (a : Answer). a .number) (cond-false accepted (refusal 12 first) y))) (test (eqb first (size g)))
 
         free : {n number : ℕ} → (n ≡ 0) ⊎ (n ≡ 12) → number ≡ n → 0 < number → number ≤ 9 → w₁ ≡ w₀
         free (inl e) q l h = let z : ⊥ = omega arith in absurd z

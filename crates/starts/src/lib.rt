@@ -1,6 +1,6 @@
 // The call `starts` of document 01, Table 5: from codes, any sheet of counts and a threshold, the numbers of the starts. Questions 5 to 9,
-// then 11 and 12; the pass of `accumulation` answers 12 and leaves the receivers standing, from which `starting` numbers the cells when all
-// is answered.
+// then 11 and 12; the pass of `accumulation` answers 12 and leaves the receivers standing, from which `starting` numbers the cells when
+// all is answered.
 use grid::Answer;
 use grid::Counted;
 use grid::Grid;
@@ -57,7 +57,8 @@ pub fn starts(
     starts: &mut [u32],
     work: &mut [u32],
 ) -> Counted
-    ensures { λ r. ⌜ StartsPromise g (now (codes .entry)) (now (counts .entry)) threshold (now (starts .entry)) (now (starts .exit)) (now (work .entry)) (now (work .exit)) r ⌝ }
+    ensures { λ r. ⌜ StartsPromise g (now (codes .entry)) (now (counts .entry)) threshold (now (starts .entry)) (now (starts .exit))
+        (now (work .entry)) (now (work .exit)) r ⌝ }
 {
     let given = codes.len();
     let wanted = starts.len();

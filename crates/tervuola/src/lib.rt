@@ -1,11 +1,13 @@
-// The C interface: "Our planning screen, written in C, calls the program with its own buffers". Thin entry points on numbers and slices over the proved
-// calls, each with the promise of the call behind it. A slice crosses as a pointer and a number of elements; structs come back by value.
+// The C interface: "Our planning screen, written in C, calls the program with its own buffers". Thin entry points on numbers and slices
+// over the proved calls, each with the promise of the call behind it. A slice crosses as a pointer and a number of elements; structs come
+// back by value.
 use grid::Answer;
 use grid::Counted;
 use grid::Dimensions;
 use grid::Grid;
 ghost use Rattle.grid.specs.Sheet.{gridOf};
-ghost use Rattle.grid.specs.Promises.{CountsPromise, DirectionsPromise, DrainPromise, FillPromise, LabelsPromise, PourPointsPromise, ReadPromise, StartsPromise, WatershedsPromise};
+ghost use Rattle.grid.specs.Promises.{CountsPromise, DirectionsPromise, DrainPromise, FillPromise, LabelsPromise, PourPointsPromise};
+ghost use Rattle.grid.specs.Promises.{ReadPromise, StartsPromise, WatershedsPromise};
 
 // Elevations to the filled sheet.
 #[no_mangle]
@@ -16,7 +18,8 @@ pub extern "C" fn tervuola_fill(
     filled: &mut [i16],
     work: &mut [u32],
 ) -> Answer
-    ensures { λ r. ⌜ FillPromise (gridOf rows cols) (now (elevations .entry)) (now (filled .entry)) (now (filled .exit)) (now (work .entry)) (now (work .exit)) r ⌝ }
+    ensures { λ r. ⌜ FillPromise (gridOf rows cols) (now (elevations .entry)) (now (filled .entry)) (now (filled .exit))
+        (now (work .entry)) (now (work .exit)) r ⌝ }
 {
     let g = Grid {
         rows: rows as usize,
@@ -34,7 +37,8 @@ pub extern "C" fn tervuola_directions(
     codes: &mut [u8],
     work: &mut [u32],
 ) -> Answer
-    ensures { λ r. ⌜ DirectionsPromise (gridOf rows cols) (now (elevations .entry)) (now (codes .entry)) (now (codes .exit)) (now (work .entry)) (now (work .exit)) r ⌝ }
+    ensures { λ r. ⌜ DirectionsPromise (gridOf rows cols) (now (elevations .entry)) (now (codes .entry)) (now (codes .exit))
+        (now (work .entry)) (now (work .exit)) r ⌝ }
 {
     let g = Grid {
         rows: rows as usize,
@@ -52,7 +56,8 @@ pub extern "C" fn tervuola_counts(
     counts: &mut [u32],
     work: &mut [u32],
 ) -> Answer
-    ensures { λ r. ⌜ CountsPromise (gridOf rows cols) (now (codes .entry)) (now (counts .entry)) (now (counts .exit)) (now (work .entry)) (now (work .exit)) r ⌝ }
+    ensures { λ r. ⌜ CountsPromise (gridOf rows cols) (now (codes .entry)) (now (counts .entry)) (now (counts .exit)) (now (work .entry))
+        (now (work .exit)) r ⌝ }
 {
     let g = Grid {
         rows: rows as usize,
@@ -70,7 +75,8 @@ pub extern "C" fn tervuola_labels(
     labels: &mut [u32],
     work: &mut [u32],
 ) -> Answer
-    ensures { λ r. ⌜ LabelsPromise (gridOf rows cols) (now (codes .entry)) (now (labels .entry)) (now (labels .exit)) (now (work .entry)) (now (work .exit)) r ⌝ }
+    ensures { λ r. ⌜ LabelsPromise (gridOf rows cols) (now (codes .entry)) (now (labels .entry)) (now (labels .exit)) (now (work .entry))
+        (now (work .exit)) r ⌝ }
 {
     let g = Grid {
         rows: rows as usize,
@@ -91,7 +97,9 @@ pub extern "C" fn tervuola_drain(
     labels: &mut [u32],
     work: &mut [u32],
 ) -> Answer
-    ensures { λ r. ⌜ DrainPromise (gridOf rows cols) (now (elevations .entry)) (now (filled .entry)) (now (filled .exit)) (now (codes .entry)) (now (codes .exit)) (now (counts .entry)) (now (counts .exit)) (now (labels .entry)) (now (labels .exit)) (now (work .entry)) (now (work .exit)) r ⌝ }
+    ensures { λ r. ⌜ DrainPromise (gridOf rows cols) (now (elevations .entry)) (now (filled .entry)) (now (filled .exit))
+        (now (codes .entry)) (now (codes .exit)) (now (counts .entry)) (now (counts .exit)) (now (labels .entry)) (now (labels .exit))
+        (now (work .entry)) (now (work .exit)) r ⌝ }
 {
     let g = Grid {
         rows: rows as usize,
@@ -110,7 +118,8 @@ pub extern "C" fn tervuola_watersheds(
     watersheds: &mut [u32],
     work: &mut [u32],
 ) -> Answer
-    ensures { λ r. ⌜ WatershedsPromise (gridOf rows cols) (now (codes .entry)) (now (starts .entry)) (now (watersheds .entry)) (now (watersheds .exit)) (now (work .entry)) (now (work .exit)) r ⌝ }
+    ensures { λ r. ⌜ WatershedsPromise (gridOf rows cols) (now (codes .entry)) (now (starts .entry)) (now (watersheds .entry))
+        (now (watersheds .exit)) (now (work .entry)) (now (work .exit)) r ⌝ }
 {
     let g = Grid {
         rows: rows as usize,
@@ -130,7 +139,8 @@ pub extern "C" fn tervuola_starts(
     starts: &mut [u32],
     work: &mut [u32],
 ) -> Counted
-    ensures { λ r. ⌜ StartsPromise (gridOf rows cols) (now (codes .entry)) (now (counts .entry)) threshold (now (starts .entry)) (now (starts .exit)) (now (work .entry)) (now (work .exit)) r ⌝ }
+    ensures { λ r. ⌜ StartsPromise (gridOf rows cols) (now (codes .entry)) (now (counts .entry)) threshold (now (starts .entry))
+        (now (starts .exit)) (now (work .entry)) (now (work .exit)) r ⌝ }
 {
     let g = Grid {
         rows: rows as usize,
@@ -151,7 +161,9 @@ pub extern "C" fn tervuola_pour_points(
     elevation: &mut [i16],
     cell: &mut [u32],
 ) -> Counted
-    ensures { λ r. ⌜ PourPointsPromise (gridOf rows cols) (now (elevations .entry)) (now (labels .entry)) (now (smaller .entry)) (now (smaller .exit)) (now (larger .entry)) (now (larger .exit)) (now (elevation .entry)) (now (elevation .exit)) (now (cell .entry)) (now (cell .exit)) r ⌝ }
+    ensures { λ r. ⌜ PourPointsPromise (gridOf rows cols) (now (elevations .entry)) (now (labels .entry)) (now (smaller .entry))
+        (now (smaller .exit)) (now (larger .entry)) (now (larger .exit)) (now (elevation .entry)) (now (elevation .exit))
+        (now (cell .entry)) (now (cell .exit)) r ⌝ }
 {
     let g = Grid {
         rows: rows as usize,

@@ -86,8 +86,10 @@ module _ (cols : ℕ) (text : List ℕ) where
   unfolding feedsEndLines isPlaced
   all-placed i e h =
       rw (
-        none-of (length text) (λ k. not (eqb (getD text k 0) lineFeed) && endsLine cols k) (λ k m. right-first (eqb (getD text k 0) lineFeed) (endsLine cols k) (h k (omega arith))),
-        none-of (length text) (λ k. eqb (getD text k 0) lineFeed && not (endsLine cols k)) (λ k m. right-second (eqb (getD text k 0) lineFeed) (endsLine cols k) (h k (omega arith))),
+        none-of (length text) (λ k. not (eqb (getD text k 0) lineFeed) && endsLine cols k)
+            (λ k m. right-first (eqb (getD text k 0) lineFeed) (endsLine cols k) (h k (omega arith))),
+        none-of (length text) (λ k. eqb (getD text k 0) lineFeed && not (endsLine cols k))
+            (λ k m. right-second (eqb (getD text k 0) lineFeed) (endsLine cols k) (h k (omega arith))),
       )
 
   neither : (a b : Bool) → (a ≡ true) ⊎ (b ≡ true) → (not a && not b) ≡ false
@@ -123,7 +125,8 @@ module _ (text : List ℕ) where
         rw (same, le-leb 9 (length text) long, eq-eqb (length text) _ e)
 
 -- the two numbers of the header
-pub header-grid : (text : List ℕ) {rows cols : ℕ} → rows ≡ number4 text 0 → cols ≡ number4 text 4 → _≡_ {A = Grid} record { rows = rows; cols = cols } (textGrid text)
+pub header-grid : (text : List ℕ) {rows cols : ℕ} → rows ≡ number4 text 0 → cols ≡ number4 text 4 →
+    _≡_ {A = Grid} record { rows = rows; cols = cols } (textGrid text)
 unfolding textGrid
 header-grid text e f = rw (e, f)
 

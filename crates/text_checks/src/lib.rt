@@ -1,6 +1,6 @@
-// Questions 2 and 3 about a text: "Is every byte a digit or a line feed?", with the place of the first that isn't, and "Is it a line of 4 digits
-// for rows and 4 for columns, then exactly that many lines of 4 digits for each column, each line ended by one line feed, and nothing more?".
-// Each is one loop over the bytes, and a test of each byte; the header's numbers are read by the cursor.
+// Questions 2 and 3 about a text: "Is every byte a digit or a line feed?", with the place of the first that isn't, and "Is it a line of 4
+// digits for rows and 4 for columns, then exactly that many lines of 4 digits for each column, each line ended by one line feed, and
+// nothing more?". Each is one loop over the bytes, and a test of each byte; the header's numbers are read by the cursor.
 ghost use mathlib.Core.Path.{_≡_};
 ghost use Prim.Native.Nat.{_≤_};
 ghost use lib.Dec.{eqb};

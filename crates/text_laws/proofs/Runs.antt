@@ -29,7 +29,8 @@ module _ {A : Type 0} where
   pub set-before-sets : (vs l : List A) (i j : ℕ) (d : A) → i + length vs ≤ j → sets (set l j d) i vs ≡ set (sets l i vs) j d
   set-before-sets [] l i j d h = refl
   set-before-sets (x ∷ vs) l i j d h =
-      ap (λ (m : List A). sets m (suc i) vs) (set-comm l j i d x (λ e. omega arith)) ∙ set-before-sets vs (set l i x) (suc i) j d (omega arith)
+      ap (λ (m : List A). sets m (suc i) vs) (set-comm l j i d x (λ e. omega arith))
+      ∙ set-before-sets vs (set l i x) (suc i) j d (omega arith)
 
   -- a run from the first place on: what it stores, and then what stood there
   pub sets-front : (vs l : List A) → length vs ≤ length l → sets l 0 vs ≡ vs ++ drop (length vs) l
@@ -64,4 +65,5 @@ module _ {A : Type 0} where
   pub sets-join : (n k : ℕ) (f : ℕ → List A) (l : List A) (i j : ℕ) → ((i : ℕ) → length (f i) ≡ k) → j ≡ i + n * k
       → sets (sets l i (joinBelow n f)) j (f n) ≡ sets l i (joinBelow (n + 1) f)
   sets-join n k f l i j h e =
-      sets-next (joinBelow n f) (f n) l i j (e ∙ ap (λ (m : ℕ). i + m) (sym (length-join n k f h))) ∙ ap (λ (p : List A). sets l i p) (sym (join-next n f))
+      sets-next (joinBelow n f) (f n) l i j (e ∙ ap (λ (m : ℕ). i + m) (sym (length-join n k f h)))
+      ∙ ap (λ (p : List A). sets l i p) (sym (join-next n f))

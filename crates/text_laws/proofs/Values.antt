@@ -31,9 +31,23 @@ module _ (b : ℕ) where
   pub of-lower : 97 ≤ b → b ≤ 102 → hexValue b ≡ b - 87
   unfolding hexValue
   of-lower l h =
-      rw (le-leb 48 b (omega arith), lt-leb b 57 (omega arith), le-leb 65 b (omega arith), lt-leb b 70 (omega arith), le-leb 97 b l, le-leb b 102 h)
+      rw (
+        le-leb 48 b (omega arith),
+        lt-leb b 57 (omega arith),
+        le-leb 65 b (omega arith),
+        lt-leb b 70 (omega arith),
+        le-leb 97 b l,
+        le-leb b 102 h,
+      )
 
   pub above-lower : 102 < b → hexValue b ≡ 16
   unfolding hexValue
   above-lower h =
-      rw (le-leb 48 b (omega arith), lt-leb b 57 (omega arith), le-leb 65 b (omega arith), lt-leb b 70 (omega arith), le-leb 97 b (omega arith), lt-leb b 102 h)
+      rw (
+        le-leb 48 b (omega arith),
+        lt-leb b 57 (omega arith),
+        le-leb 65 b (omega arith),
+        lt-leb b 70 (omega arith),
+        le-leb 97 b (omega arith),
+        lt-leb b 102 h,
+      )

@@ -24,7 +24,8 @@ lifted (negsuc n) = 65535 - n
 plus : (e : ℤ) → mag e < 32768 → e +ℤ pos 65536 ≡ pos (lifted e)
 plus (pos n) h = refl
 plus (negsuc n) h =
-    ap (λ (t : Bool). cond t (negsuc (suc n - suc 65536)) (pos (65536 - suc n))) (le-ltb 65536 (suc n) (omega arith)) ∙ ap pos (omega arith)
+    ap (λ (t : Bool). cond t (negsuc (suc n - suc 65536)) (pos (65536 - suc n))) (le-ltb 65536 (suc n) (omega arith))
+    ∙ ap pos (omega arith)
 
 lifted-small : (e : ℤ) → mag e < 32768 → lifted e < 98304
 lifted-small (pos n) h = omega arith

@@ -13,7 +13,8 @@ use Rattle.text_laws.proofs.Digits.{cellsText, lineText, linesText, no-cells, n
 use Rattle.text_lines.specs.Put.{Put}
 
 -- a run is stored, and the buffer keeps its length
-pub put-length : {text : List ℕ} {width from : ℕ} {out₀ out₁ : List ℕ} {next : ℕ} → Put text width from out₀ out₁ next → length out₁ ≡ length out₀
+pub put-length : {text : List ℕ} {width from : ℕ} {out₀ out₁ : List ℕ} {next : ℕ} → Put text width from out₀ out₁ next →
+    length out₁ ≡ length out₀
 put-length {text} {width} {from} {out₀} p = ap length (p .stored) ∙ length-sets out₀ from text
 
 module _ {a b : List ℕ} {n m i : ℕ} {out₀ out₁ : List ℕ} {j : ℕ} where
@@ -53,7 +54,9 @@ module _ (k : ℕ) (f : ℕ → ℕ) (c : ℕ) (out₀ : List ℕ) (from : ℕ) 
     same-length = put-length p ∙ h .same-length;
     next-place = p .next-place ∙ ap (λ (n : ℕ). n + k) (h .next-place) ∙ rw (add-one q, suc-mul q k) (omega arith);
     stored =
-        p .stored ∙ ap (λ (l : List ℕ). sets l next (hexText k v)) (h .stored) ∙ rw e (more-cells k (λ i. f (c + i)) q out₀ from next (h .next-place));
+        p .stored
+        ∙ ap (λ (l : List ℕ). sets l next (hexText k v)) (h .stored)
+        ∙ rw e (more-cells k (λ i. f (c + i)) q out₀ from next (h .next-place));
   }
 
   -- the line feed ends the line
@@ -84,7 +87,8 @@ module _ (cols k : ℕ) (f : ℕ → ℕ) (out₀ : List ℕ) (from : ℕ) where
   lines-more {out} {next} {c} {r} {out₁} {next₁} h p = record {
     same-length = put-length p ∙ h .same-length;
     next-cell = ap (λ (n : ℕ). n + cols) (h .next-cell) ∙ rw (add-one r, suc-mul r cols);
-    next-place = p .next-place ∙ ap (λ (n : ℕ). n + (cols * k + 1)) (h .next-place) ∙ rw (add-one r, suc-mul r (cols * k + 1)) (omega arith);
+    next-place =
+        p .next-place ∙ ap (λ (n : ℕ). n + (cols * k + 1)) (h .next-place) ∙ rw (add-one r, suc-mul r (cols * k + 1)) (omega arith);
     stored =
         p .stored
         ∙ ap (λ (l : List ℕ). sets l next (lineText cols k f c)) (h .stored)
@@ -93,4 +97,5 @@ module _ (cols k : ℕ) (f : ℕ → ℕ) (out₀ : List ℕ) (from : ℕ) where
 
   pub lines-end : {out : List ℕ} {next c rows : ℕ} → LinesTo cols k f out₀ from out next c rows
       → Put (linesText cols k f rows) (rows * (cols * k + 1)) from out₀ out next
-  lines-end {out} {next} {c} {rows} h = record { width-of-text = length-lines cols k f rows; next-place = h .next-place; stored = h .stored }
+  lines-end {out} {next} {c} {rows} h =
+      record { width-of-text = length-lines cols k f rows; next-place = h .next-place; stored = h .stored }

@@ -1,6 +1,6 @@
-// "The frames", printing, part by part: a number in digits, a line of cells, a sheet of lines, each stored in a lent buffer from a place on, with
-// the next place handed on. The contract of each says which run of bytes is stored (`Put`), so a line is the join of its cells and a sheet the
-// join of its lines, as in the definition of the text.
+// "The frames", printing, part by part: a number in digits, a line of cells, a sheet of lines, each stored in a lent buffer from a place
+// on, with the next place handed on. The contract of each says which run of bytes is stored (`Put`), so a line is the join of its cells
+// and a sheet the join of its lines, as in the definition of the text.
 ghost use mathlib.Core.Path.{_≡_};
 ghost use Prim.Native.Nat.{_+_, _*_, _<_, _≤_};
 ghost use lib.ListN.{length, getD};
@@ -54,7 +54,8 @@ fn twos_at(elevations: &[i16], c: usize) -> u32
 
 fn elevations_line(elevations: &[i16], c: usize, cols: usize, out: &mut [u8], from: usize) -> usize
     requires { ⌜ (c + cols ≤ length (now elevations)) × (from + (cols * 4 + 1) ≤ length (now out)) ⌝ }
-    ensures { λ r. ⌜ Put (lineText cols 4 (λ i. toTwos (at (now (elevations .entry)) i)) c) (cols * 4 + 1) from (now (out .entry)) (now (out .exit)) r ⌝ }
+    ensures { λ r. ⌜ Put (lineText cols 4 (λ i. toTwos (at (now (elevations .entry)) i)) c) (cols * 4 + 1) from (now (out .entry))
+        (now (out .exit)) r ⌝ }
 {
     let mut next = from;
     let mut q = 0;
@@ -69,7 +70,8 @@ fn elevations_line(elevations: &[i16], c: usize, cols: usize, out: &mut [u8], fr
 
 fn codes_line(codes: &[u8], c: usize, cols: usize, out: &mut [u8], from: usize) -> usize
     requires { ⌜ (c + cols ≤ length (now codes)) × (from + (cols * 2 + 1) ≤ length (now out)) ⌝ }
-    ensures { λ r. ⌜ Put (lineText cols 2 (λ i. getD (now (codes .entry)) i 0) c) (cols * 2 + 1) from (now (out .entry)) (now (out .exit)) r ⌝ }
+    ensures { λ r. ⌜ Put (lineText cols 2 (λ i. getD (now (codes .entry)) i 0) c) (cols * 2 + 1) from (now (out .entry)) (now (out .exit))
+        r ⌝ }
 {
     let mut next = from;
     let mut q = 0;
@@ -89,7 +91,8 @@ fn wide(code: u8) -> u32
 
 fn numbers_line(numbers: &[u32], c: usize, cols: usize, out: &mut [u8], from: usize) -> usize
     requires { ⌜ (c + cols ≤ length (now numbers)) × (from + (cols * 8 + 1) ≤ length (now out)) ⌝ }
-    ensures { λ r. ⌜ Put (lineText cols 8 (λ i. getD (now (numbers .entry)) i 0) c) (cols * 8 + 1) from (now (out .entry)) (now (out .exit)) r ⌝ }
+    ensures { λ r. ⌜ Put (lineText cols 8 (λ i. getD (now (numbers .entry)) i 0) c) (cols * 8 + 1) from (now (out .entry))
+        (now (out .exit)) r ⌝ }
 {
     let mut next = from;
     let mut q = 0;
@@ -105,7 +108,8 @@ fn numbers_line(numbers: &[u32], c: usize, cols: usize, out: &mut [u8], from: us
 
 pub fn elevations_sheet(g: Grid, elevations: &[i16], out: &mut [u8], from: usize) -> usize
     requires { ⌜ (length (now elevations) ≡ size g) × (from + g .rows * (g .cols * 4 + 1) ≤ length (now out)) ⌝ }
-    ensures { λ r. ⌜ Put (sheetText g 4 (λ i. toTwos (at (now (elevations .entry)) i))) (g .rows * (g .cols * 4 + 1)) from (now (out .entry)) (now (out .exit)) r ⌝ }
+    ensures { λ r. ⌜ Put (sheetText g 4 (λ i. toTwos (at (now (elevations .entry)) i))) (g .rows * (g .cols * 4 + 1)) from
+        (now (out .entry)) (now (out .exit)) r ⌝ }
 {
     let rows = g.rows;
     let cols = g.cols;
@@ -122,7 +126,8 @@ pub fn elevations_sheet(g: Grid, elevations: &[i16], out: &mut [u8], from: usize
 
 pub fn codes_sheet(g: Grid, codes: &[u8], out: &mut [u8], from: usize) -> usize
     requires { ⌜ (length (now codes) ≡ size g) × (from + g .rows * (g .cols * 2 + 1) ≤ length (now out)) ⌝ }
-    ensures { λ r. ⌜ Put (sheetText g 2 (λ i. getD (now (codes .entry)) i 0)) (g .rows * (g .cols * 2 + 1)) from (now (out .entry)) (now (out .exit)) r ⌝ }
+    ensures { λ r. ⌜ Put (sheetText g 2 (λ i. getD (now (codes .entry)) i 0)) (g .rows * (g .cols * 2 + 1)) from (now (out .entry))
+        (now (out .exit)) r ⌝ }
 {
     let rows = g.rows;
     let cols = g.cols;
@@ -139,7 +144,8 @@ pub fn codes_sheet(g: Grid, codes: &[u8], out: &mut [u8], from: usize) -> usize
 
 pub fn numbers_sheet(g: Grid, numbers: &[u32], out: &mut [u8], from: usize) -> usize
     requires { ⌜ (length (now numbers) ≡ size g) × (from + g .rows * (g .cols * 8 + 1) ≤ length (now out)) ⌝ }
-    ensures { λ r. ⌜ Put (sheetText g 8 (λ i. getD (now (numbers .entry)) i 0)) (g .rows * (g .cols * 8 + 1)) from (now (out .entry)) (now (out .exit)) r ⌝ }
+    ensures { λ r. ⌜ Put (sheetText g 8 (λ i. getD (now (numbers .entry)) i 0)) (g .rows * (g .cols * 8 + 1)) from (now (out .entry))
+        (now (out .exit)) r ⌝ }
 {
     let rows = g.rows;
     let cols = g.cols;

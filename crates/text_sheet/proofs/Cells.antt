@@ -38,7 +38,8 @@ module _ (text : List ℕ) (from c : ℕ) (e₀ : List ℤ) where
         next-place = omega arith;
         stored =
             ap (λ (l : List ℤ). set l (c + q) v) (h .stored)
-            ∙ sets-next (elevationsFrom text from q) (v ∷ []) e₀ c (c + q) (ap (λ (k : ℕ). c + k) (sym (length-table q (λ k. fromTwos (number4 text (from + 4 * k))))))
+            ∙ sets-next (elevationsFrom text from q) (v ∷ []) e₀ c (c + q)
+            (ap (λ (k : ℕ). c + k) (sym (length-table q (λ k. fromTwos (number4 text (from + 4 * k))))))
             ∙ ap (λ (x : ℤ). sets e₀ c (elevationsFrom text from q ++ (x ∷ []))) (w ∙ ap (λ (i : ℕ). fromTwos (number4 text i)) p)
             ∙ ap (λ (l : List ℤ). sets e₀ c l) (sym (table-next q (λ k. fromTwos (number4 text (from + 4 * k)))));
       }
@@ -77,12 +78,14 @@ module _ (text : List ℕ) (cols : ℕ) (e₀ : List ℤ) where
       table-ext cols (λ k. cellValue text cols (r * cols + k)) (λ k. fromTwos (number4 text (9 + r * (4 * cols + 1) + 4 * k)))
       (λ k l. rw (digits-div r l, digits-mod r l))
 
-  pub lines-more : {e e₁ : List ℤ} {next next₁ : Cursor} {c r : ℕ} → LinesTo text cols e₀ e next c r → LineRead text cols (next .at) c e e₁ next₁
+  pub lines-more : {e e₁ : List ℤ} {next next₁ : Cursor} {c r : ℕ} → LinesTo text cols e₀ e next c r →
+      LineRead text cols (next .at) c e e₁ next₁
       → LinesTo text cols e₀ e₁ next₁ (c + cols) (r + 1)
   lines-more {e} {e₁} {next} {next₁} {c} {r} h p = record {
     same-length = ap length (p .stored) ∙ length-sets e c (elevationsFrom text (next .at) cols) ∙ h .same-length;
     next-cell = ap (λ (n : ℕ). n + cols) (h .next-cell) ∙ rw (add-one r, suc-mul r cols);
-    next-place = p .next-place ∙ ap (λ (n : ℕ). n + (4 * cols + 1)) (h .next-place) ∙ rw (add-one r, suc-mul r (4 * cols + 1)) (omega arith);
+    next-place =
+        p .next-place ∙ ap (λ (n : ℕ). n + (4 * cols + 1)) (h .next-place) ∙ rw (add-one r, suc-mul r (4 * cols + 1)) (omega arith);
     stored =
         p .stored
         ∙ ap (λ (l : List ℤ). sets l c (elevationsFrom text (next .at) cols)) (h .stored)

@@ -1,6 +1,6 @@
-// The elevations of a text that has passed question 3, stored at the front of a lent sheet: "a sheet read from text: at least as many, places past
-// them untouched". The cursor goes from number to number and from line to line; a line stores a run of elevations, and the runs of the lines
-// are the definition's sheet.
+// The elevations of a text that has passed question 3, stored at the front of a lent sheet: "a sheet read from text: at least as many,
+// places past them untouched". The cursor goes from number to number and from line to line; a line stores a run of elevations, and the
+// runs of the lines are the definition's sheet.
 ghost use mathlib.Core.Path.{_≡_};
 ghost use mathlib.Core.List.{_++_};
 ghost use Prim.Native.Nat.{_+_, _*_, _≤_};

@@ -1,10 +1,11 @@
-// The walk: for every cell with a code the last cell of its route, or the first cell whose route does not end ("12. Does every route end? Place:
-// the first cell whose route doesn't"). It serves labels, watersheds and question 12.
+// The walk: for every cell with a code the last cell of its route, or the first cell whose route does not end ("12. Does every route end?
+// Place: the first cell whose route doesn't"). It serves labels, watersheds and question 12.
 //
-// The lent buffer begins with n receivers (`route_laws`, `specs/Receivers`), and the walk overwrites each by n + 1 + (1 plus the last cell of the
-// route, 0 without a code), which is above n: one word for each cell, each written once. From each start in turn it goes down to the first cell
-// that has a result or is the route's end, then goes down again and writes. A walk of more than n steps has met a ring, so its start is the first
-// endless cell: those before it have results. That a walk's steps are the route's is a law (`route_laws`, `proofs/Walking`).
+// The lent buffer begins with n receivers (`route_laws`, `specs/Receivers`), and the walk overwrites each by n + 1 + (1 plus the last cell
+// of the route, 0 without a code), which is above n: one word for each cell, each written once. From each start in turn it goes down to
+// the first cell that has a result or is the route's end, then goes down again and writes. A walk of more than n steps has met a ring, so
+// its start is the first endless cell: those before it have results. That a walk's steps are the route's is a law (`route_laws`,
+// `proofs/Walking`).
 ghost use mathlib.Core.Path.{_≡_};
 ghost use mathlib.Core.Bool.{Bool, true, false};
 ghost use Prim.Native.Nat.{ℕ, _+_, _<_, _≤_, _^_};

@@ -27,7 +27,8 @@ pub record FirstStray (codes starts : List ℕ) (r : ℕ) : Type 0 where
   pub below : (c : ℕ) → c < r → (eqb (getD codes c 0) 0 && ltb 0 (getD starts c 0)) ≡ false
   pub at : r < length codes → (eqb (getD codes r 0) 0 && ltb 0 (getD starts r 0)) ≡ true
 
-pub first-stray-is : (g : Grid) (codes starts : List ℕ) → length codes ≡ size g → (r : ℕ) → FirstStray codes starts r → r ≡ firstBadStart g codes starts
+pub first-stray-is : (g : Grid) (codes starts : List ℕ) → length codes ≡ size g → (r : ℕ) → FirstStray codes starts r →
+    r ≡ firstBadStart g codes starts
 unfolding firstBadStart
 first-stray-is g codes starts long r F = go (decLt r (size g))
   where
@@ -61,15 +62,20 @@ module _ (g : Grid) (codes starts : List ℕ) (long : length codes ≡ size g) w
 
   module _ (good : firstBadCode g codes ≡ size g) where
     pub answer-12 : (b : ℕ) → b ≡ firstEndless g codes → b < length codes → refusal 12 b ≡ routesCheck g codes starts
-    answer-12 b e h = ap (refusal 12) e ∙ sym (codes-endless g codes (askCell 13 g (firstBadStart g codes starts) accepted) good (omega arith))
+    answer-12 b e h =
+        ap (refusal 12) e ∙ sym (codes-endless g codes (askCell 13 g (firstBadStart g codes starts) accepted) good (omega arith))
 
     module _ (ends : firstEndless g codes ≡ size g) where
       pub answer-13 : (b : ℕ) → b ≡ firstBadStart g codes starts → b < length codes → refusal 13 b ≡ routesCheck g codes starts
       answer-13 b e h =
-          ap (refusal 13) e ∙ sym (codes-yes g codes (askCell 13 g (firstBadStart g codes starts) accepted) good ends ∙ cell-no 13 (firstBadStart g codes starts) g accepted (omega arith))
+          ap (refusal 13) e
+          ∙ sym (codes-yes g codes (askCell 13 g (firstBadStart g codes starts) accepted) good ends
+          ∙ cell-no 13 (firstBadStart g codes starts) g accepted (omega arith))
 
       pub answer-yes : firstBadStart g codes starts ≡ size g → accepted ≡ routesCheck g codes starts
-      answer-yes q = sym (codes-yes g codes (askCell 13 g (firstBadStart g codes starts) accepted) good ends ∙ cell-yes 13 (firstBadStart g codes starts) g accepted q)
+      answer-yes q =
+          sym (codes-yes g codes (askCell 13 g (firstBadStart g codes starts) accepted) good ends
+          ∙ cell-yes 13 (firstBadStart g codes starts) g accepted q)
 
 -- ---- what an accepted answer says
 pub record AllYes (g : Grid) (codes starts : List ℕ) : Type 0 where
@@ -83,14 +89,22 @@ all-yes g codes starts r e z = by-bad (decLt (firstBadCode g codes) (size g))
     not-asked : (k b : ℕ) → 0 < k → routesCheck g codes starts ≡ refusal k b → ⊥
     not-asked k b h q = let w : r .number ≡ k = ap (λ (a : Answer). a .number) (e ∙ q) in omega arith
 
-    by-stray : firstBadCode g codes ≡ size g → firstEndless g codes ≡ size g → Dec (firstBadStart g codes starts < size g) → AllYes g codes starts
-    by-stray p q (yes h) = absurd (not-asked 13 (firstBadStart g codes starts) (omega arith) (codes-yes g codes (askCell 13 g (firstBadStart g codes starts) accepted) p q ∙ cell-no 13 (firstBadStart g codes starts) g accepted h))
+    by-stray : firstBadCode g codes ≡ size g → firstEndless g codes ≡ size g → Dec (firstBadStart g codes starts < size g) →
+        AllYes g codes starts
+    by-stray p q (yes h) =
+        absurd (not-asked 13 (firstBadStart g codes starts) (omega arith)
+        (codes-yes g codes (askCell 13 g (firstBadStart g codes starts) accepted) p q
+        ∙ cell-no 13 (firstBadStart g codes starts) g accepted h))
     by-stray p q (no f) = record { no-bad = p; no-endless = q; no-stray = (let b = stray-≤ g codes starts in omega arith) }
 
     by-endless : firstBadCode g codes ≡ size g → Dec (firstEndless g codes < size g) → AllYes g codes starts
-    by-endless p (yes h) = absurd (not-asked 12 (firstEndless g codes) (omega arith) (codes-endless g codes (askCell 13 g (firstBadStart g codes starts) accepted) p h))
+    by-endless p (yes h) =
+        absurd (not-asked 12 (firstEndless g codes) (omega arith)
+        (codes-endless g codes (askCell 13 g (firstBadStart g codes starts) accepted) p h))
     by-endless p (no f) = by-stray p (let b = endless-≤ g codes in omega arith) (decLt (firstBadStart g codes starts) (size g))
 
     by-bad : Dec (firstBadCode g codes < size g) → AllYes g codes starts
-    by-bad (yes h) = absurd (not-asked 11 (firstBadCode g codes) (omega arith) (codes-bad g codes (askCell 13 g (firstBadStart g codes starts) accepted) h))
+    by-bad (yes h) =
+        absurd (not-asked 11 (firstBadCode g codes) (omega arith)
+        (codes-bad g codes (askCell 13 g (firstBadStart g codes starts) accepted) h))
     by-bad (no f) = by-endless (let b = bad-≤ g codes in omega arith) (decLt (firstEndless g codes) (size g))

@@ -30,7 +30,8 @@ use Rattle.labelling.proofs.Sheet.{front}
 pub cut-none : (n : ℕ) (starts t : List ℕ) (c : ℕ) → getD starts c 0 ≡ 0 → t ≡ set t c (cond (ltb 0 (getD starts c 0)) n (getD t c 0))
 cut-none n starts t c e = sym (ap (set t c) (cond-false n (getD t c 0) (le-ltb 0 (getD starts c 0) (omega arith))) ∙ set-getD t c 0)
 
-pub cut-one : (n : ℕ) (starts t : List ℕ) (c : ℕ) → (getD starts c 0 ≡ 0 → ⊥) → set t c n ≡ set t c (cond (ltb 0 (getD starts c 0)) n (getD t c 0))
+pub cut-one : (n : ℕ) (starts t : List ℕ) (c : ℕ) → (getD starts c 0 ≡ 0 → ⊥) →
+    set t c n ≡ set t c (cond (ltb 0 (getD starts c 0)) n (getD t c 0))
 cut-one n starts t c f = ap (set t c) (sym (cond-true n (getD t c 0) (lt-ltb 0 (getD starts c 0) (above (getD starts c 0) f))))
   where
     above : (m : ℕ) → (m ≡ 0 → ⊥) → 0 < m
@@ -46,15 +47,19 @@ module _ (n : ℕ) (starts t₀ : List ℕ) where
   pub cut-to-none : CutTo n starts 0 t₀ t₀
   cut-to-none = record { same-length = refl; done = λ c h. let z : ⊥ = omega arith in absurd z; after = λ k h. refl }
 
-  pub cut-to-more : (i : ℕ) (t : List ℕ) → CutTo n starts i t₀ t → i < length t₀ → CutTo n starts (i + 1) t₀ (set t i (cond (ltb 0 (getD starts i 0)) n (getD t i 0)))
+  pub cut-to-more : (i : ℕ) (t : List ℕ) → CutTo n starts i t₀ t → i < length t₀ →
+      CutTo n starts (i + 1) t₀ (set t i (cond (ltb 0 (getD starts i 0)) n (getD t i 0)))
   cut-to-more i t C h =
       record {
         same-length = length-set t i (cond (ltb 0 (getD starts i 0)) n (getD t i 0)) ∙ C .same-length;
         done = λ c l. one c l (ℕ-discrete c i);
-        after = λ k l. getD-set-other t i k (cond (ltb 0 (getD starts i 0)) n (getD t i 0)) 0 (λ q. let z : ⊥ = omega arith in z) ∙ C .after k (omega arith);
+        after =
+            λ k l. getD-set-other t i k (cond (ltb 0 (getD starts i 0)) n (getD t i 0)) 0 (λ q. let z : ⊥ = omega arith in z)
+            ∙ C .after k (omega arith);
       }
     where
-      one : (c : ℕ) → c < i + 1 → Dec (c ≡ i) → getD (set t i (cond (ltb 0 (getD starts i 0)) n (getD t i 0))) c 0 ≡ cond (ltb 0 (getD starts c 0)) n (getD t₀ c 0)
+      one : (c : ℕ) → c < i + 1 → Dec (c ≡ i) → getD (set t i (cond (ltb 0 (getD starts i 0)) n (getD t i 0))) c 0
+          ≡ cond (ltb 0 (getD starts c 0)) n (getD t₀ c 0)
       one c l (yes q) =
           let s = C .same-length in
           ap (λ (x : ℕ). getD (set t i (cond (ltb 0 (getD starts i 0)) n (getD t i 0))) x 0) q
@@ -102,7 +107,9 @@ module _ (g : Grid) (codes starts t₀ t₁ t₂ : List ℕ) (long : length code
 
   -- every route ends, and does when it is cut
   all-ends : (c : ℕ) → Ends (liveOf g codes) (nextOf g codes) c
-  all-ends = all-end (liveOf g codes) (nextOf g codes) (size g) (live-below (size g) (receivers g codes) (length-receivers g codes long)) (sym (first-endless-is g codes long) ∙ ends)
+  all-ends =
+      all-end (liveOf g codes) (nextOf g codes) (size g) (live-below (size g) (receivers g codes) (length-receivers g codes long))
+      (sym (first-endless-is g codes long) ∙ ends)
 
   ends-cut : (c : ℕ) → Ends (liveAt (size g) t₂) (nextAt (size g) t₂) c
   ends-cut c =
@@ -115,7 +122,8 @@ module _ (g : Grid) (codes starts t₀ t₁ t₂ : List ℕ) (long : length code
   module _ (t₃ : List ℕ) (r : ℕ) (W : Walked (size g) t₂ t₃ r) where
     at-walked : (c : ℕ) → c < size g → getD t₃ c 0 ≡ size g + 1 + lastMark (liveAt (size g) t₂) (nextAt (size g) t₂) (size g) c
     at-walked c h =
-        ap (λ (l : List ℕ). getD l c 0) (W .lasts (W .first ∙ first-unending-none (liveAt (size g) t₂) (nextAt (size g) t₂) (size g) below-cut (λ k l. ends-cut k)))
+        ap (λ (l : List ℕ). getD l c 0)
+        (W .lasts (W .first ∙ first-unending-none (liveAt (size g) t₂) (nextAt (size g) t₂) (size g) below-cut (λ k l. ends-cut k)))
         ∙ at-front (size g) (λ c. size g + 1 + lastMark (liveAt (size g) t₂) (nextAt (size g) t₂) (size g) c) (drop (size g) t₂) c h
 
     pub raised : (c : ℕ) → c < size g → (size g + 1 ≤ getD t₃ c 0) × (getD t₃ c 0 ≤ size g + 1 + size g)
@@ -126,8 +134,13 @@ module _ (g : Grid) (codes starts t₀ t₁ t₂ : List ℕ) (long : length code
 
     pub watersheds-read : table (size g) (λ c. startOf starts (getD t₃ c 0 - (size g + 1))) ≡ watersheds g codes starts
     watersheds-read =
-        table-ext (size g) (λ c. startOf starts (getD t₃ c 0 - (size g + 1))) (λ c. startOf starts (lastMark (liveIn (size g) (cut (size g) starts (receivers g codes))) (nextIn (size g) (cut (size g) starts (receivers g codes))) (size g) c))
-        (λ c h. ap (startOf starts) (less (getD t₃ c 0) _ (at-walked c h) ∙ ap (λ (l : List ℕ). lastMark (liveIn (size g) l) (nextIn (size g) l) (size g) c) front-cut))
+        table-ext (size g) (λ c. startOf starts (getD t₃ c 0 - (size g + 1)))
+        (λ c. startOf starts
+        (lastMark (liveIn (size g) (cut (size g) starts (receivers g codes))) (nextIn (size g) (cut (size g) starts (receivers g codes)))
+        (size g) c))
+        (λ c h. ap (startOf starts)
+        (less (getD t₃ c 0) _ (at-walked c h) ∙ ap (λ (l : List ℕ). lastMark (liveIn (size g) l) (nextIn (size g) l) (size g) c)
+        front-cut))
         ∙ sym (watersheds-are g codes starts long on all-ends)
       where
         less : (x y : ℕ) → x ≡ size g + 1 + y → x - (size g + 1) ≡ y

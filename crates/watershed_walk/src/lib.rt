@@ -1,6 +1,7 @@
-// Watersheds from starts: "A cell's watershed is the label of the first start on its route, itself included, else 0". Each start is made the end of
-// its route, so that the walk (crate `walk`) finds the first start or, where there is none, the route's last cell; the watershed is the start there.
-// That this is the definition is a law (`route_laws`, `proofs/Starts`). Questions 11 to 13 are answered here too, by way of the same tail.
+// Watersheds from starts: "A cell's watershed is the label of the first start on its route, itself included, else 0". Each start is made
+// the end of its route, so that the walk (crate `walk`) finds the first start or, where there is none, the route's last cell; the
+// watershed is the start there. That this is the definition is a law (`route_laws`, `proofs/Starts`). Questions 11 to 13 are answered here
+// too, by way of the same tail.
 use grid::Answer;
 use grid::Grid;
 ghost use mathlib.Core.Path.{_≡_};
@@ -24,7 +25,8 @@ fn cut_at(n: usize, starts: &[u32], tail: &mut [u32], cell: usize)
     requires { ⌜ length (now starts) ≡ n ⌝ }
     requires { ⌜ n ≤ length (now tail) ⌝ }
     requires { ⌜ cell < n ⌝ }
-    ensures { λ _. ⌜ now (tail .exit) ≡ set (now (tail .entry)) cell (cond (ltb 0 (getD (now (starts .entry)) cell 0)) n (getD (now (tail .entry)) cell 0)) ⌝ }
+    ensures { λ _. ⌜ now (tail .exit)
+        ≡ set (now (tail .entry)) cell (cond (ltb 0 (getD (now (starts .entry)) cell 0)) n (getD (now (tail .entry)) cell 0)) ⌝ }
 {
     if starts[cell] == 0 {
         return;
@@ -68,7 +70,8 @@ fn read_watersheds(n: usize, starts: &[u32], tail: &[u32], watersheds: &mut [u32
     requires { ⌜ n ≤ length (now tail) ⌝ }
     requires { ⌜ length (now watersheds) ≡ n ⌝ }
     requires { ⌜ ((c : ℕ) → c < n → (n + 1 ≤ getD (now tail) c 0) × (getD (now tail) c 0 ≤ n + 1 + n)) ⌝ }
-    ensures { λ _. ⌜ now (watersheds .exit) ≡ table n (λ (c : ℕ). startOf (now (starts .entry)) (getD (now (tail .entry)) c 0 - (n + 1))) ⌝ }
+    ensures { λ _. ⌜ now (watersheds .exit)
+        ≡ table n (λ (c : ℕ). startOf (now (starts .entry)) (getD (now (tail .entry)) c 0 - (n + 1))) ⌝ }
 {
     let mut c = 0;
     while c < n {
@@ -141,7 +144,8 @@ fn routes_check(g: Grid, codes: &[u8], starts: &[u32], tail: &mut [u32]) -> Answ
     requires { ⌜ length (now codes) ≡ size g ⌝ }
     requires { ⌜ length (now starts) ≡ size g ⌝ }
     requires { ⌜ size g ≤ length (now tail) ⌝ }
-    ensures { λ r. ⌜ r ≡ askCodes g (now (codes .entry)) (askCell 13 g (firstBadStart g (now (codes .entry)) (now (starts .entry))) accepted) ⌝ }
+    ensures { λ r. ⌜ r
+        ≡ askCodes g (now (codes .entry)) (askCell 13 g (firstBadStart g (now (codes .entry)) (now (starts .entry))) accepted) ⌝ }
 {
     let given = codes.len();
     let bad = receivers::first_bad_code(g, codes);
@@ -184,8 +188,10 @@ pub fn watersheds_of(
     requires { ⌜ length (now starts) ≡ size g ⌝ }
     requires { ⌜ length (now watersheds) ≡ size g ⌝ }
     requires { ⌜ size g ≤ length (now tail) ⌝ }
-    ensures { λ r. ⌜ r ≡ askCodes g (now (codes .entry)) (askCell 13 g (firstBadStart g (now (codes .entry)) (now (starts .entry))) accepted) ⌝ }
-    ensures { λ r. ⌜ now (watersheds .exit) ≡ resultOf r (watersheds' g (now (codes .entry)) (now (starts .entry))) (now (watersheds .entry)) ⌝ }
+    ensures { λ r. ⌜ r
+        ≡ askCodes g (now (codes .entry)) (askCell 13 g (firstBadStart g (now (codes .entry)) (now (starts .entry))) accepted) ⌝ }
+    ensures { λ r. ⌜ now (watersheds .exit)
+        ≡ resultOf r (watersheds' g (now (codes .entry)) (now (starts .entry))) (now (watersheds .entry)) ⌝ }
 {
     let answer = routes_check(g, codes, starts, tail);
     if answer.number != 0 {

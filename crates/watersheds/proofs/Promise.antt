@@ -34,9 +34,15 @@ module _ (g : Grid) (codes starts : List ℕ) where
   late : Late (routesCheck g codes starts)
   late = by-bad (decLt (firstBadCode g codes) (size g))
     where
-      by-stray : firstBadCode g codes ≡ size g → firstEndless g codes ≡ size g → Dec (firstBadStart g codes starts < size g) → Late (routesCheck g codes starts)
-      by-stray p q (yes h) = number-of 13 (firstBadStart g codes starts) (omega arith) (codes-yes g codes asked13 p q ∙ cell-no 13 (firstBadStart g codes starts) g accepted h)
-      by-stray p q (no f) = inl (ap (λ (a : Answer). a .number) (codes-yes g codes asked13 p q ∙ cell-yes 13 (firstBadStart g codes starts) g accepted (let b = stray-≤ g codes starts in omega arith)))
+      by-stray : firstBadCode g codes ≡ size g → firstEndless g codes ≡ size g → Dec (firstBadStart g codes starts < size g) →
+          Late (routesCheck g codes starts)
+      by-stray p q (yes h) =
+          number-of 13 (firstBadStart g codes starts) (omega arith)
+          (codes-yes g codes asked13 p q ∙ cell-no 13 (firstBadStart g codes starts) g accepted h)
+      by-stray p q (no f) =
+          inl (ap (λ (a : Answer). a .number)
+          (codes-yes g codes asked13 p q ∙ cell-yes 13 (firstBadStart g codes starts) g accepted
+          (let b = stray-≤ g codes starts in omega arith)))
 
       by-endless : firstBadCode g codes ≡ size g → Dec (firstEndless g codes < size g) → Late (routesCheck g codes starts)
       by-endless p (yes h) = number-of 12 (firstEndless g codes) (omega arith) (codes-endless g codes asked13 p h)
@@ -55,17 +61,21 @@ pub record Sizes (g : Grid) (codes starts k₀ w₀ : List ℕ) : Type 0 where
   pub room : 4 * size g ≤ length w₀
 
 module _ (g : Grid) (codes starts k₀ w₀ : List ℕ) (r : Answer)
-    (asked : r ≡ askSheets g (length codes ∷ length starts ∷ []) (length k₀ ∷ length k₀ ∷ length k₀ ∷ length k₀ ∷ []) (askWork g (length w₀) accepted)) where
-  number-asked : (askSheets g (length codes ∷ length starts ∷ []) (length k₀ ∷ length k₀ ∷ length k₀ ∷ length k₀ ∷ []) (askWork g (length w₀) accepted)) .number ≡ r .number
+    (asked : r ≡ askSheets g (length codes ∷ length starts ∷ []) (length k₀ ∷ length k₀ ∷ length k₀ ∷ length k₀ ∷ [])
+    (askWork g (length w₀) accepted)) where
+  number-asked : (askSheets g (length codes ∷ length starts ∷ []) (length k₀ ∷ length k₀ ∷ length k₀ ∷ length k₀ ∷ [])
+      (askWork g (length w₀) accepted)) .number ≡ r .number
   number-asked = ap (λ (a : Answer). a .number) (sym asked)
 
-  whole : askSheets g (length codes ∷ length starts ∷ []) (length k₀ ∷ length k₀ ∷ length k₀ ∷ length k₀ ∷ []) (askWork g (length w₀) (routesCheck g codes starts)) ≡ watershedsCheck g codes starts (length k₀) (length w₀)
+  whole : askSheets g (length codes ∷ length starts ∷ []) (length k₀ ∷ length k₀ ∷ length k₀ ∷ length k₀ ∷ [])
+      (askWork g (length w₀) (routesCheck g codes starts)) ≡ watershedsCheck g codes starts (length k₀) (length w₀)
   unfolding watershedsCheck
   whole = two-inputs g (length codes) (length starts) (length k₀) (askWork g (length w₀) (routesCheck g codes starts))
 
   pub refused-promise : (r .number ≡ 0 → ⊥) → WatershedsPromise g codes starts k₀ k₀ w₀ w₀ r
   refused-promise n =
-      let f = refused g (length codes ∷ length starts ∷ []) (length k₀ ∷ length k₀ ∷ length k₀ ∷ length k₀ ∷ []) (length w₀) (λ e. n (sym number-asked ∙ e)) in
+      let f = refused g (length codes ∷ length starts ∷ []) (length k₀ ∷ length k₀ ∷ length k₀ ∷ length k₀ ∷ []) (length w₀)
+      (λ e. n (sym number-asked ∙ e)) in
       record {
         answer = asked ∙ sym (f .stands (routesCheck g codes starts)) ∙ whole;
         result = sym (cond-false (watersheds g codes starts) k₀ (ne-eqb (r .number) 0 n));
@@ -74,19 +84,22 @@ module _ (g : Grid) (codes starts k₀ w₀ : List ℕ) (r : Answer)
 
   module _ (yes : r .number ≡ 0) where
     pass : Passed g (length codes ∷ length starts ∷ []) (length k₀ ∷ length k₀ ∷ length k₀ ∷ length k₀ ∷ []) (length w₀)
-    pass = passed g (length codes ∷ length starts ∷ []) (length k₀ ∷ length k₀ ∷ length k₀ ∷ length k₀ ∷ []) (length w₀) (number-asked ∙ yes)
+    pass =
+        passed g (length codes ∷ length starts ∷ []) (length k₀ ∷ length k₀ ∷ length k₀ ∷ length k₀ ∷ []) (length w₀) (number-asked ∙ yes)
 
     pub sizes : Sizes g codes starts k₀ w₀
     sizes =
         record {
           fits = pass .fits;
           codes-long = have-first (size g) (length codes) (length starts ∷ []) (pass .inputs-have);
-          starts-long = have-first (size g) (length starts) [] (have-rest (size g) (length codes) (length starts ∷ []) (pass .inputs-have));
+          starts-long =
+              have-first (size g) (length starts) [] (have-rest (size g) (length codes) (length starts ∷ []) (pass .inputs-have));
           result-long = have-first (size g) (length k₀) (length k₀ ∷ length k₀ ∷ length k₀ ∷ []) (pass .results-have);
           room = pass .room;
         }
 
-    pub answered-promise : (a : Answer) (k₁ w₁ : List ℕ) → a ≡ routesCheck g codes starts → k₁ ≡ resultOf a (watersheds g codes starts) k₀ → length w₁ ≡ length w₀ → WatershedsPromise g codes starts k₀ k₁ w₀ w₁ a
+    pub answered-promise : (a : Answer) (k₁ w₁ : List ℕ) → a ≡ routesCheck g codes starts →
+        k₁ ≡ resultOf a (watersheds g codes starts) k₀ → length w₁ ≡ length w₀ → WatershedsPromise g codes starts k₀ k₁ w₀ w₁ a
     answered-promise a k₁ w₁ e q same =
         record {
           answer = e ∙ sym (pass .then (routesCheck g codes starts)) ∙ whole;
@@ -95,4 +108,6 @@ module _ (g : Grid) (codes starts k₀ w₀ : List ℕ) (r : Answer)
         }
       where
         never : 0 < a .number → a .number ≤ 9 → ⊥
-        never l h = let w : a .number ≡ (routesCheck g codes starts) .number = ap (λ (x : Answer). x .number) e in ⊎-elim (λ z. omega arith) (λ z. omega arith) (late g codes starts)
+        never l h =
+            let w : a .number ≡ (routesCheck g codes starts) .number = ap (λ (x : Answer). x .number) e in
+            ⊎-elim (λ z. omega arith) (λ z. omega arith) (late g codes starts)

@@ -1,6 +1,6 @@
-// The call `watersheds` of document 01: from codes and starts, of each cell "the label of the first start on its route, itself included, else 0".
-// Questions 5 to 9, then 11 to 13 and the watersheds by way of the second half of the work buffer (crate `watershed_walk`). The result is written when
-// the last question is answered.
+// The call `watersheds` of document 01: from codes and starts, of each cell "the label of the first start on its route, itself included,
+// else 0". Questions 5 to 9, then 11 to 13 and the watersheds by way of the second half of the work buffer (crate `watershed_walk`). The
+// result is written when the last question is answered.
 use grid::Answer;
 use grid::Grid;
 ghost use mathlib.Core.Path.{_≡_};
@@ -25,8 +25,10 @@ fn watersheds_into(
     requires { ⌜ length (now starts) ≡ size g ⌝ }
     requires { ⌜ length (now watersheds) ≡ size g ⌝ }
     requires { ⌜ 4 * size g ≤ length (now work) ⌝ }
-    ensures { λ r. ⌜ r ≡ askCodes g (now (codes .entry)) (askCell 13 g (firstBadStart g (now (codes .entry)) (now (starts .entry))) accepted) ⌝ }
-    ensures { λ r. ⌜ now (watersheds .exit) ≡ resultOf r (watersheds' g (now (codes .entry)) (now (starts .entry))) (now (watersheds .entry)) ⌝ }
+    ensures { λ r. ⌜ r
+        ≡ askCodes g (now (codes .entry)) (askCell 13 g (firstBadStart g (now (codes .entry)) (now (starts .entry))) accepted) ⌝ }
+    ensures { λ r. ⌜ now (watersheds .exit)
+        ≡ resultOf r (watersheds' g (now (codes .entry)) (now (starts .entry))) (now (watersheds .entry)) ⌝ }
 {
     let half = work.len() / 2;
     watershed_walk::watersheds_of(g, codes, starts, watersheds, &mut work[half..])
@@ -40,7 +42,8 @@ pub fn watersheds(
     watersheds: &mut [u32],
     work: &mut [u32],
 ) -> Answer
-    ensures { λ r. ⌜ WatershedsPromise g (now (codes .entry)) (now (starts .entry)) (now (watersheds .entry)) (now (watersheds .exit)) (now (work .entry)) (now (work .exit)) r ⌝ }
+    ensures { λ r. ⌜ WatershedsPromise g (now (codes .entry)) (now (starts .entry)) (now (watersheds .entry)) (now (watersheds .exit))
+        (now (work .entry)) (now (work .exit)) r ⌝ }
 {
     let given = codes.len();
     let marked = starts.len();

@@ -40,7 +40,9 @@ loop-again c =
     let e = K .same-length in (
       omega arith,
       kept-store _ _ _ (c .before .loop .i) 0 K,
-      cleared-more _ (c .before .loop .tail) (c .before .loop .i) (let l : c .before .before .args .n + c .before .before .args .n ≤ length (c .before .loop .tail) = omega arith in l) (c .loop-test .taken) (c .before .loop .inv .2),
+      cleared-more _ (c .before .loop .tail) (c .before .loop .i)
+          (let l : c .before .before .args .n + c .before .before .args .n ≤ length (c .before .loop .tail) = omega arith in l)
+          (c .loop-test .taken) (c .before .loop .inv .2),
     )
 
 same-length : tie.Need-same-length Inv-loop μ-loop

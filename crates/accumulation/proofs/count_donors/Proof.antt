@@ -31,7 +31,8 @@ loop-less c = let l = c .before .before .before .before .loop-test .taken in ome
 loop-again : tie.Need-loop-again Inv-loop μ-loop
 loop-again c =
     let s = c .before .before .before .before .before .before .before in
-    donors-turn _ _ (c .before .before .before .before .before .loop .tail) _ _ (s .pre .0) (s .pre .1 .0) (c .before .before .before .before .loop-test .taken)
+    donors-turn _ _ (c .before .before .before .before .before .loop .tail) _ _ (s .pre .0) (s .pre .1 .0)
+    (c .before .before .before .before .loop-test .taken)
     (c .before .before .before .before .before .loop .inv) (c .before .before .add-donor .ensures)
 
 same-length : tie.Need-same-length Inv-loop μ-loop

@@ -36,7 +36,8 @@ loop-less c = let h = sub-left c in omega arith
 loop-again : tie.Need-loop-again Inv-loop μ-loop
 loop-again c =
     let s = c .before .before .before .before .before .before .before in
-    down-turn _ _ _ _ _ _ _ _ (s .pre .0) (c .before .before .before .before .before .loop .inv) (c .before .before .before .before .loop-test .taken)
+    down-turn _ _ _ _ _ _ _ _ (s .pre .0) (c .before .before .before .before .before .loop .inv)
+    (c .before .before .before .before .loop-test .taken)
     (c .before .before .pass .ensures .0) (c .before .before .pass .ensures .1)
 
 same-length : tie.Need-same-length Inv-loop μ-loop

@@ -5,7 +5,8 @@ use Prim.Native.Nat.{ℕ, _*_}
 use native.Mathlib.Omega.{arith}
 use borrow.Author.Needs.{needs}
 use Rattle.grid.specs.Checks.{accepted, askWork}
-use Rattle.checks.proofs.Asked.{says-no, says-yes, fits-of-range, rows-no, cols-no, inputs-no, results-no, sheets-yes, work-no, work-yes}
+use Rattle.checks.proofs.Asked.{says-no, says-yes, fits-of-range, rows-no, cols-no, inputs-no, results-no, sheets-yes, work-no}
+use Rattle.checks.proofs.Asked.{work-yes}
 use Rattle.checks.proofs.check.Statement.{statement}
 use Rattle.checks.proofs.check.Tie as tie
 
@@ -28,7 +29,8 @@ returns-2 c =
 mul-n : tie.Need-mul-n
 mul-n c =
     let b = c .before in
-    let f = fits-of-range _ (says-yes (b .before .before .before .in-range .ensures) (b .before .before .if1 .left)) (says-yes (b .before .in-range2 .ensures) (b .if2 .left)) in
+    let f = fits-of-range _ (says-yes (b .before .before .before .in-range .ensures) (b .before .before .if1 .left))
+    (says-yes (b .before .in-range2 .ensures) (b .if2 .left)) in
     let l = f .cells in
     record { fits = omega arith }
 
@@ -59,7 +61,8 @@ returns-4 c =
 mul-if5 : tie.Need-mul-if5
 mul-if5 c =
     let b = c .before .before .before .before .before in
-    let f = fits-of-range _ (says-yes (b .before .before .before .in-range .ensures) (b .before .before .if1 .left)) (says-yes (b .before .in-range2 .ensures) (b .if2 .left)) in
+    let f = fits-of-range _ (says-yes (b .before .before .before .in-range .ensures) (b .before .before .if1 .left))
+    (says-yes (b .before .in-range2 .ensures) (b .if2 .left)) in
     let l = f .cells in
     record { fits = omega arith }
 

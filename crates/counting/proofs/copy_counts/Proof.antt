@@ -41,8 +41,11 @@ loop-less c = omega arith
 loop-again : tie.Need-loop-again Inv-loop μ-loop
 loop-again c =
     let s = c .before .before .before in
-    let l = c .before .loop-test .taken in
-    (omega arith, copied-count (s .args .n) (s .args .tail .now) _ _ _ (c .before .before .loop .inv .1) (let h = s .pre .1 in omega arith))
+    let l = c .before .loop-test .taken in (
+      omega arith,
+      copied-count (s .args .n) (s .args .tail .now) _ _ _ (c .before .before .loop .inv .1)
+          (let h = s .pre .1 in omega arith),
+    )
 
 same-length : tie.Need-same-length Inv-loop μ-loop
 same-length c = c .before .loop .inv .1 .same-length

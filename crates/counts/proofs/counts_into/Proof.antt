@@ -72,10 +72,11 @@ same-length-2 c = search needs
 
 returns : tie.Need-returns
 returns c =
-    let s = c .before .before .before .before .before .before .before .before .before .before .before .before .before .before .before .before .before .before .before in
+    let b = c .before .before .before .before .before .before .before .before .before .before .before .before .before in
+    let s = b .before .before .before .before .before .before in
     let a = s .args in
     let p = s .pre in
-    let q = c .before .before .before .before .before .before .before .before .before .before .before .before .before .copy-codes in
+    let q = b .copy-codes in
     let v = c .before .before .before .before .before .before .before .before .before .receivers-from-copy in
     let z = c .before .before .before .before .counts-of in
     counted (a .g) (a .codes .now) (a .work .now) (q .last .1 .0) (p .0) (p .1 .0) (p .1 .1 .1 .0) (q .kept .1 .0) (q .ensures)

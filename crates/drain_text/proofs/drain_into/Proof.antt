@@ -9,9 +9,11 @@ drain-requires c κs = search needs
 
 write-results-requires : tie.Need-write-results-requires
 write-results-requires c κs =
-    let s = c .before .before .before .before .before .before .before .before .before .before .before .before .before .before .before .before .before .before .before .before .before .before .before .before .before .pre in
-    let d = c .before .before .before .before .before .before .before .before .before .before .before .before .before .before .drain in
-    results-fit _ _ _ _ _ _ _ _ _ _ _ _ (s .0) (s .1) (d .kept .1 .1 .0) (d .kept .1 .1 .1 .0) (d .kept .1 .1 .1 .1 .0) (d .kept .1 .1 .1 .1 .1 .0)
+    let b = c .before .before .before .before .before .before .before .before .before .before .before .before .before .before in
+    let s = b .before .before .before .before .before .before .before .before .before .before .before .pre in
+    let d = b .drain in
+    results-fit _ _ _ _ _ _ _ _ _ _ _ _ (s .0) (s .1) (d .kept .1 .1 .0) (d .kept .1 .1 .1 .0) (d .kept .1 .1 .1 .1 .0)
+    (d .kept .1 .1 .1 .1 .1 .0)
 
 same-length : tie.Need-same-length
 same-length c = search needs
@@ -33,8 +35,10 @@ same-length-6 c = search needs
 
 returns : tie.Need-returns
 returns c =
-    let s = c .before .before .before .before .before .before .before .before .before .before .before .before .before .before .before .before .before .before .before .before .before .before .before .before .before .before .before .before .pre in
-    let d = c .before .before .before .before .before .before .before .before .before .before .before .before .before .before .before .before .before .drain in
+    let m = c .before .before .before .before .before .before .before .before in
+    let b = m .before .before .before .before .before .before .before .before .before in
+    let s = b .before .before .before .before .before .before .before .before .before .before .before .pre in
+    let d = b .drain in
     results-printed _ _ _ _ _ _ _ _ _ _ _ _ _ _ (s .0) (s .1) (d .ensures) _ _ (c .before .before .write-results .ensures)
 
 pub drain-into-spec : {M : Type 1} → statement M

@@ -43,7 +43,9 @@ array-share-prefix-elevations c =
 slice-aggregate-drain-sheet : tie.Need-slice-aggregate-drain-sheet
 slice-aggregate-drain-sheet c =
     let r = c .before .before .before .before .before .read in
-    sym (length-take-le _ _ (omega (arith, read-rows-cols _ _ _ _ refl (r .ensures) (c .before .before .before .if1 .left) .few, r .kept .1 .0)))
+    sym
+    (length-take-le _ _
+    (omega (arith, read-rows-cols _ _ _ _ refl (r .ensures) (c .before .before .before .if1 .left) .few, r .kept .1 .0)))
 
 drain-sheet-requires : tie.Need-drain-sheet-requires
 drain-sheet-requires c κs =
@@ -63,7 +65,8 @@ same-length-2 c = search needs
 returns-2 : tie.Need-returns-2
 returns-2 c =
     let r = c .before .before .before .before .before .before .before .before .before .read in
-    drained _ _ _ _ refl (r .ensures) (c .before .before .before .before .before .before .before .if1 .left) _ _ _ (c .before .before .drain-sheet .ensures)
+    drained _ _ _ _ refl (r .ensures) (c .before .before .before .before .before .before .before .if1 .left) _ _ _
+    (c .before .before .drain-sheet .ensures)
 
 pub run-spec : {M : Type 1} → statement M
 run-spec =

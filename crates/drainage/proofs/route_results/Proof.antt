@@ -10,11 +10,9 @@ use Rattle.counting.proofs.counts_of.Reads as counts-of-reads
 use Rattle.labelling.proofs.labels_of.Reads as labels-of-reads
 use Rattle.receivers.proofs.receivers_from.Reads as receivers-from-reads
 
--- src/lib.rt:68:13
 mul-n : tie.Need-mul-n
 mul-n c = search needs
 
--- src/lib.rt:69:5
 receivers-from-requires : tie.Need-receivers-from-requires
 receivers-from-requires c κs =
     let R = c .before .before .before .before .before .before .pre in
@@ -22,17 +20,16 @@ receivers-from-requires c κs =
     let small = R .fits .cells in
     (omega arith, (R .fits .rows-low, (R .long, (R .all-codes, omega arith))))
 
--- src/lib.rt:70:5
 counts-of-requires : tie.Need-counts-of-requires
 counts-of-requires c κs =
     let s = c .before .before .before .before .before .before .before .before .before .before .before in
     let a = s .args in
     let w = c .before .before .before .before .receivers-from in
-    let q = ready-to-count (a .g) (a .codes .now) (length (a .counts .now)) (length (a .labels .now)) (a .tail .now) (w .last .1 .1 .0) (s .pre)
+    let q = ready-to-count (a .g) (a .codes .now) (length (a .counts .now)) (length (a .labels .now)) (a .tail .now)
+    (w .last .1 .1 .0) (s .pre)
     (w .kept .1 .1 .0) (w .ensures) in
     (q .0, (q .1 .0, (q .1 .1, s .pre .counts-have)))
 
--- src/lib.rt:71:5
 labels-of-requires : tie.Need-labels-of-requires
 labels-of-requires c κs =
     let k = c .before .before .before .before .before .before in
@@ -41,23 +38,20 @@ labels-of-requires c κs =
     let a = s .args in
     let w = b .receivers-from in
     let v = k .counts-of in
-    let q = ready-to-label (a .g) (a .codes .now) (length (a .counts .now)) (length (a .labels .now)) (a .tail .now) (w .last .1 .1 .0) (s .pre)
+    let q = ready-to-label (a .g) (a .codes .now) (length (a .counts .now)) (length (a .labels .now)) (a .tail .now)
+    (w .last .1 .1 .0) (s .pre)
     (w .kept .1 .1 .0) (w .ensures) (v .last .1 .0) (a .counts .now) (v .last .1 .1 .0) (v .result) (v .ensures) (v .kept .1 .0) in
     (q .0, (q .1 .0, (q .1 .1, s .pre .labels-have)))
 
--- src/lib.rt:63:1
 same-length : tie.Need-same-length
 same-length c = search needs
 
--- src/lib.rt:63:1
 same-length-2 : tie.Need-same-length-2
 same-length-2 c = search needs
 
--- src/lib.rt:63:1
 same-length-3 : tie.Need-same-length-3
 same-length-3 c = search needs
 
--- src/lib.rt:63:1
 returns : tie.Need-returns
 returns c =
     let m = c .before .before .before .before in

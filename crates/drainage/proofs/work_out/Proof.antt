@@ -10,31 +10,24 @@ use Rattle.flow.proofs.directions_into.Reads as directions-into-reads
 use Rattle.drainage.proofs.route_results.Reads as route-results-reads
 use Rattle.fill.proofs.fill_into.Reads as fill-into-reads
 
--- src/lib.rt:87:5
 fill-into-requires : tie.Need-fill-into-requires
 fill-into-requires c κs = search needs
 
--- src/lib.rt:88:5
 directions-into-requires : tie.Need-directions-into-requires
 directions-into-requires c κs = search needs
 
--- src/lib.rt:90:45
 mul-route-results : tie.Need-mul-route-results
 mul-route-results c = search needs
 
--- src/lib.rt:90:45
 sub-route-results : tie.Need-sub-route-results
 sub-route-results c = search needs
 
--- src/lib.rt:90:45
 part-route-results-start : tie.Need-part-route-results-start
 part-route-results-start c = search needs
 
--- src/lib.rt:90:45
 part-route-results-end : tie.Need-part-route-results-end
 part-route-results-end c = search needs
 
--- src/lib.rt:90:5
 route-results-requires : tie.Need-route-results-requires
 route-results-requires c κs =
     let d = c .before .before .before .before .before .before .before .before in
@@ -44,31 +37,26 @@ route-results-requires c κs =
     let fi = b .fill-into in
     let di = d .directions-into in
     routable (a .g) (a .elevations .now) (fi .last .1 .1 .0) (a .codes .now) (di .last .1 .1 .0)
-    (length (a .filled .now)) (length (a .codes .now)) (length (a .counts .now)) (length (a .labels .now)) (length (a .work .now)) (di .result)
+    (length (a .filled .now)) (length (a .codes .now)) (length (a .counts .now)) (length (a .labels .now)) (length (a .work .now))
+    (di .result)
     (s .pre) (fi .ensures .1) (fi .ensures .0) (di .ensures .0) (di .ensures .1) (di .last .1 .1 .1 .0)
     (di .kept .1 .1 .1 .0 ∙ fi .kept .1 .1 .1 .0)
 
--- src/lib.rt:75:1
 same-length : tie.Need-same-length
 same-length c = search needs
 
--- src/lib.rt:75:1
 same-length-2 : tie.Need-same-length-2
 same-length-2 c = search needs
 
--- src/lib.rt:75:1
 same-length-3 : tie.Need-same-length-3
 same-length-3 c = search needs
 
--- src/lib.rt:75:1
 same-length-4 : tie.Need-same-length-4
 same-length-4 c = search needs
 
--- src/lib.rt:75:1
 same-length-5 : tie.Need-same-length-5
 same-length-5 c = search needs
 
--- src/lib.rt:75:1
 returns : tie.Need-returns
 returns c =
     let o = c .before .before .before .before .before .before in
@@ -80,7 +68,8 @@ returns c =
     let di = d .directions-into in
     let ro = o .route-results in
     results (a .g) (a .elevations .now) (fi .last .1 .1 .0) (a .codes .now) (di .last .1 .1 .0)
-    (length (a .filled .now)) (length (a .codes .now)) (length (a .counts .now)) (length (a .labels .now)) (length (a .work .now)) (di .result)
+    (length (a .filled .now)) (length (a .codes .now)) (length (a .counts .now)) (length (a .labels .now)) (length (a .work .now))
+    (di .result)
     (s .pre) (fi .ensures .1) (fi .ensures .0) (di .ensures .0) (di .ensures .1)
     (ro .last .1 .1 .0) (ro .last .1 .1 .1 .0) (ro .ensures .0) (ro .ensures .1)
 

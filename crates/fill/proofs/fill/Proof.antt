@@ -22,7 +22,8 @@ fill-into-requires : tie.Need-fill-into-requires
 fill-into-requires c κs =
     let a = c .before .before .before .before .before .before .args in
     let k = c .before .before .before .before .check in
-    let s = accepted-sizes (a .g) (a .elevations .now) (a .filled .now) (a .work .now) (k .result) (k .ensures) (c .before .before .if1 .left) in
+    let s = accepted-sizes (a .g) (a .elevations .now) (a .filled .now) (a .work .now) (k .result) (k .ensures)
+    (c .before .before .if1 .left) in
     (s .0, (s .1, (s .2, (s .3, s .4))))
 
 same-length : tie.Need-same-length
@@ -37,7 +38,8 @@ returns-2 c =
     let k = c .before .before .before .before .before .before .before .before .check in
     let z = c .before .before .before .before .before .before .if1 .left in
     let f = c .before .before .before .fill-into in
-    accepted-promise (a .g) (a .elevations .now) (a .filled .now) (a .work .now) (k .result) (k .ensures) z (f .last .1 .1 .0) (f .last .1 .1 .1 .0) (f .ensures .0) (f .kept .1 .1 .1 .0)
+    accepted-promise (a .g) (a .elevations .now) (a .filled .now) (a .work .now) (k .result) (k .ensures) z (f .last .1 .1 .0)
+    (f .last .1 .1 .1 .0) (f .ensures .0) (f .kept .1 .1 .1 .0)
 
 pub fill-spec : {M : Type 1} → statement M
 fill-spec =

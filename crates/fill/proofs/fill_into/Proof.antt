@@ -34,8 +34,10 @@ flood-requires c κs =
     let l = c .before .before .before .before .before .before .before .load in
     let t = c .before .before .before .sort in
     let half = length (a .work .now) / 2 in
-    let sorted = front-sorted (a .g) (a .elevations .now) (l .last .1 .0) (s .pre .1 .1 .0) (l .ensures .1) (l .ensures .0) half (t .last .1 .0) (t .ensures .0) (t .ensures .1) in
-    let none = none-reached (a .g) (a .elevations .now) (l .last .1 .0) (s .pre .1 .1 .0) (l .ensures .1) (l .ensures .0) half (t .last .1 .0) (t .ensures .0) (t .ensures .1) in
+    let sorted = front-sorted (a .g) (a .elevations .now) (l .last .1 .0) (s .pre .1 .1 .0) (l .ensures .1) (l .ensures .0) half
+    (t .last .1 .0) (t .ensures .0) (t .ensures .1) in
+    let none = none-reached (a .g) (a .elevations .now) (l .last .1 .0) (s .pre .1 .1 .0) (l .ensures .1) (l .ensures .0) half
+    (t .last .1 .0) (t .ensures .0) (t .ensures .1) in
     (s .pre .0, (s .pre .1 .0, (omega arith, (omega arith, (sorted, none)))))
 
 unload-requires : tie.Need-unload-requires
@@ -49,14 +51,16 @@ same-length-2 c = search needs
 
 returns : tie.Need-returns
 returns c =
-    let s = c .before .before .before .before .before .before .before .before .before .before .before .before .before .before .before .before .before .before in
+    let b = c .before .before .before .before .before .before .before .before .before .before in
+    let s = b .before .before .before .before .before .before .before .before in
     let a = s .args in
-    let l = c .before .before .before .before .before .before .before .before .before .before .before .before .before .before .load in
-    let t = c .before .before .before .before .before .before .before .before .before .before .sort in
+    let l = b .before .before .before .before .load in
+    let t = b .sort in
     let f = c .before .before .before .before .before .before .flood in
     let u = c .before .unload in
     let half = length (a .work .now) / 2 in (
-      unloaded-filled (a .g) (a .elevations .now) (l .last .1 .0) (s .pre .1 .1 .0) (l .ensures .1) (l .ensures .0) half (t .last .1 .0) (t .ensures .0) (t .ensures .1)
+      unloaded-filled (a .g) (a .elevations .now) (l .last .1 .0) (s .pre .1 .1 .0) (l .ensures .1) (l .ensures .0) half (t .last .1 .0)
+          (t .ensures .0) (t .ensures .1)
           (f .last .1 .1 .0) (f .ensures .1) (u .last .1 .1 .0) (u .kept .1 .1 .0 ∙ s .pre .1 .1 .1 .0) (u .ensures),
       l .ensures .1,
     )

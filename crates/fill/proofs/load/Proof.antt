@@ -38,8 +38,11 @@ loop-again : tie.Need-loop-again Inv-loop μ-loop
 loop-again c =
     let l = c .before .before .loop in
     let e = c .before .before .before .before .args .elevations .now in
-    let k = c .key-at .ensures in
-    (omega arith, length-set (l .work) (l .i) _ ∙ l .inv .1, load-more e (l .work) (l .i) (c .key-at .result) (omega arith) (k .0) (k .1 .1) (l .inv .2))
+    let k = c .key-at .ensures in (
+      omega arith,
+      length-set (l .work) (l .i) _ ∙ l .inv .1,
+      load-more e (l .work) (l .i) (c .key-at .result) (omega arith) (k .0) (k .1 .1) (l .inv .2),
+    )
 
 same-length : tie.Need-same-length Inv-loop μ-loop
 same-length c = c .before .loop .inv .1

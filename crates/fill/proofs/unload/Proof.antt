@@ -48,8 +48,12 @@ loop-less c = omega arith
 loop-again : tie.Need-loop-again Inv-loop μ-loop
 loop-again c =
     let l = c .before .before .before .loop in
-    let a = c .before .before .before .before .before .args in
-    (omega arith, length-set (l .filled) (l .i) _ ∙ l .inv .1, unload-more (λ x. levelOf (getD (a .work .now) x 0 / 65536)) (l .filled) (l .i) _ (omega arith) (toZ-ofZ (sfits-of (c .elevation .ok)) ∙ c .elevation .ensures) (l .inv .2))
+    let a = c .before .before .before .before .before .args in (
+      omega arith,
+      length-set (l .filled) (l .i) _ ∙ l .inv .1,
+      unload-more (λ x. levelOf (getD (a .work .now) x 0 / 65536)) (l .filled) (l .i) _ (omega arith)
+          (toZ-ofZ (sfits-of (c .elevation .ok)) ∙ c .elevation .ensures) (l .inv .2),
+    )
 
 same-length : tie.Need-same-length Inv-loop μ-loop
 same-length c = c .before .loop .inv .1 ∙ sym (c .before .before .before .pre .1)

@@ -16,7 +16,8 @@ use Rattle.flood.proofs.visit.Reads as visit-reads
 
 abbrev Inv-loop : tie.InvT-loop
 Inv-loop g half work₀ n ways len₀ k₀ work len k =
-    (k ≤ size g) × (length work ≡ length work₀) × (frontOf (size g) work ≡ frontOf (size g) work₀) × Between g (frontOf (size g) work₀) (backOf (size g) half work) k len
+    (k ≤ size g) × (length work ≡ length work₀) × (frontOf (size g) work ≡ frontOf (size g) work₀)
+    × Between g (frontOf (size g) work₀) (backOf (size g) half work) k len
 
 abbrev μ-loop : tie.MeasureT-loop
 μ-loop g half work₀ n ways len₀ k₀ work len k = size g - k
@@ -28,7 +29,9 @@ distances-requires : tie.Need-distances-requires Inv-loop μ-loop
 distances-requires c κs = c .before .before .pre .1 .0
 
 loop-holds : tie.Need-loop-holds Inv-loop μ-loop
-loop-holds c = let s = c .before .before .before in (omega arith, refl, refl, between-none (s .args .g) _ _ (s .pre .1 .1 .1 .1 .0) (s .pre .1 .1 .1 .1 .1))
+loop-holds c =
+    let s = c .before .before .before in
+    (omega arith, refl, refl, between-none (s .args .g) _ _ (s .pre .1 .1 .1 .1 .0) (s .pre .1 .1 .1 .1 .1))
 
 visit-requires : tie.Need-visit-requires Inv-loop μ-loop
 visit-requires c κs =

@@ -39,8 +39,11 @@ returns c =
     let s = c .before .before .before .before .before .before .before in
     let a = s .args in
     let l = c .before .before .before .before .loop in
-    let o = (rw (c .before .before .neighbour .ensures) at (c .before .opens-any .ensures .0 (c .if1 .taken))) in
-    (λ e. opening-of (a .g) (frontOf (size (a .g)) (a .work .now)) (backOf (size (a .g)) (a .half) (a .work .now)) (a .c) (s .pre .1 .1) (l .p) (omega arith) o, λ e. absurd (true≢false e))
+    let o = (rw (c .before .before .neighbour .ensures) at (c .before .opens-any .ensures .0 (c .if1 .taken))) in (
+      λ e. opening-of (a .g) (frontOf (size (a .g)) (a .work .now)) (backOf (size (a .g)) (a .half) (a .work .now)) (a .c) (s .pre .1 .1)
+          (l .p) (omega arith) o,
+      λ e. absurd (true≢false e),
+    )
 
 add-p : tie.Need-add-p Inv-loop μ-loop
 add-p c = omega arith
@@ -49,13 +52,19 @@ loop-less : tie.Need-loop-less Inv-loop μ-loop
 loop-less c = omega arith
 
 loop-again : tie.Need-loop-again Inv-loop μ-loop
-loop-again c =
-    (omega arith, below-more _ _ (c .before .before .before .before .loop .inv .1) (rw (c .before .before .neighbour .ensures) at (c .before .opens-any .ensures .1 (c .if1 .left))))
+loop-again c = (
+  omega arith,
+  below-more _ _ (c .before .before .before .before .loop .inv .1)
+      (rw (c .before .before .neighbour .ensures) at (c .before .opens-any .ensures .1 (c .if1 .left))),
+)
 
 returns-2 : tie.Need-returns-2 Inv-loop μ-loop
 returns-2 c =
-    let a = c .before .before .before .before .args in
-    (λ e. absurd (true≢false (sym e)), λ e. none-opens (a .g) (frontOf (size (a .g)) (a .work .now)) (backOf (size (a .g)) (a .half) (a .work .now)) (a .c) (λ p h. c .before .loop .inv .1 p (omega arith)))
+    let a = c .before .before .before .before .args in (
+      λ e. absurd (true≢false (sym e)),
+      λ e. none-opens (a .g) (frontOf (size (a .g)) (a .work .now)) (backOf (size (a .g)) (a .half) (a .work .now)) (a .c)
+          (λ p h. c .before .loop .inv .1 p (omega arith)),
+    )
 
 pub opening-border-spec : {M : Type 1} → statement M
 opening-border-spec =

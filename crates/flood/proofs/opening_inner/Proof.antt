@@ -29,7 +29,9 @@ loop-holds : tie.Need-loop-holds Inv-loop μ-loop
 loop-holds c = (omega arith, λ q h. let z : ⊥ = omega arith in absurd z)
 
 near-inner-requires : tie.Need-near-inner-requires Inv-loop μ-loop
-near-inner-requires c κs = let s = c .before .before .before .before in (s .pre .0, (s .pre .1 .0, (s .pre .1 .1 .1 .1 .0, (s .pre .1 .1 .1 .1 .1, c .loop-test .taken))))
+near-inner-requires c κs =
+    let s = c .before .before .before .before in
+    (s .pre .0, (s .pre .1 .0, (s .pre .1 .1 .1 .1 .0, (s .pre .1 .1 .1 .1 .1, c .loop-test .taken))))
 
 opens-requires : tie.Need-opens-requires Inv-loop μ-loop
 opens-requires c κs = (c .before .before .before .before .before .pre .1 .1 .0, c .near-inner .ensures .1)
@@ -39,8 +41,11 @@ returns c =
     let s = c .before .before .before .before .before .before .before in
     let a = s .args in
     let l = c .before .before .before .before .loop in
-    let o = (rw (c .before .before .near-inner .ensures .0) at (c .before .opens .ensures .0 (c .if1 .taken))) in
-    (λ e. opening-of (a .g) (frontOf (size (a .g)) (a .work .now)) (backOf (size (a .g)) (a .half) (a .work .now)) (a .c) (s .pre .1 .1 .1 .0) (l .p) (omega arith) o, λ e. absurd (true≢false e))
+    let o = (rw (c .before .before .near-inner .ensures .0) at (c .before .opens .ensures .0 (c .if1 .taken))) in (
+      λ e. opening-of (a .g) (frontOf (size (a .g)) (a .work .now)) (backOf (size (a .g)) (a .half) (a .work .now)) (a .c)
+          (s .pre .1 .1 .1 .0) (l .p) (omega arith) o,
+      λ e. absurd (true≢false e),
+    )
 
 add-p : tie.Need-add-p Inv-loop μ-loop
 add-p c = omega arith
@@ -49,13 +54,19 @@ loop-less : tie.Need-loop-less Inv-loop μ-loop
 loop-less c = omega arith
 
 loop-again : tie.Need-loop-again Inv-loop μ-loop
-loop-again c =
-    (omega arith, below-more _ _ (c .before .before .before .before .loop .inv .1) (rw (c .before .before .near-inner .ensures .0) at (c .before .opens .ensures .1 (c .if1 .left))))
+loop-again c = (
+  omega arith,
+  below-more _ _ (c .before .before .before .before .loop .inv .1)
+      (rw (c .before .before .near-inner .ensures .0) at (c .before .opens .ensures .1 (c .if1 .left))),
+)
 
 returns-2 : tie.Need-returns-2 Inv-loop μ-loop
 returns-2 c =
-    let a = c .before .before .before .before .args in
-    (λ e. absurd (true≢false (sym e)), λ e. none-opens (a .g) (frontOf (size (a .g)) (a .work .now)) (backOf (size (a .g)) (a .half) (a .work .now)) (a .c) (λ p h. c .before .loop .inv .1 p (omega arith)))
+    let a = c .before .before .before .before .args in (
+      λ e. absurd (true≢false (sym e)),
+      λ e. none-opens (a .g) (frontOf (size (a .g)) (a .work .now)) (backOf (size (a .g)) (a .half) (a .work .now)) (a .c)
+          (λ p h. c .before .loop .inv .1 p (omega arith)),
+    )
 
 pub opening-inner-spec : {M : Type 1} → statement M
 opening-inner-spec =

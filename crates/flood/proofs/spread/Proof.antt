@@ -36,25 +36,32 @@ cast-x : tie.Need-cast-x
 cast-x c =
     let s = c .before .before in
     let a = s .args in
-    omega (arith, first-on (a .g) (a .half) (a .k) (a .v) (a .head) (a .len) _ (a .work .now) (s .pre .1 .1 .1 .1 .1 .1 .0) (s .pre .1 .1 .1 .1 .1 .0))
+    omega (
+      arith,
+      first-on (a .g) (a .half) (a .k) (a .v) (a .head) (a .len) _ (a .work .now) (s .pre .1 .1 .1 .1 .1 .1 .0)
+          (s .pre .1 .1 .1 .1 .1 .0),
+    )
 
 div-is-inner : tie.Need-div-is-inner
 div-is-inner c =
     let s = c .before .before in
     let a = s .args in
-    cols-positive (a .g) _ (first-on (a .g) (a .half) (a .k) (a .v) (a .head) (a .len) _ (a .work .now) (s .pre .1 .1 .1 .1 .1 .1 .0) (s .pre .1 .1 .1 .1 .1 .0))
+    cols-positive (a .g) _
+    (first-on (a .g) (a .half) (a .k) (a .v) (a .head) (a .len) _ (a .work .now) (s .pre .1 .1 .1 .1 .1 .1 .0) (s .pre .1 .1 .1 .1 .1 .0))
 
 rem-is-inner : tie.Need-rem-is-inner
 rem-is-inner c =
     let s = c .before .before in
     let a = s .args in
-    cols-positive (a .g) _ (first-on (a .g) (a .half) (a .k) (a .v) (a .head) (a .len) _ (a .work .now) (s .pre .1 .1 .1 .1 .1 .1 .0) (s .pre .1 .1 .1 .1 .1 .0))
+    cols-positive (a .g) _
+    (first-on (a .g) (a .half) (a .k) (a .v) (a .head) (a .len) _ (a .work .now) (s .pre .1 .1 .1 .1 .1 .1 .0) (s .pre .1 .1 .1 .1 .1 .0))
 
 is-inner-requires : tie.Need-is-inner-requires
 is-inner-requires c κs =
     let s = c .before .before in
     let a = s .args in
-    let h = first-on (a .g) (a .half) (a .k) (a .v) (a .head) (a .len) _ (a .work .now) (s .pre .1 .1 .1 .1 .1 .1 .0) (s .pre .1 .1 .1 .1 .1 .0) in
+    let h = first-on (a .g) (a .half) (a .k) (a .v) (a .head) (a .len) _ (a .work .now) (s .pre .1 .1 .1 .1 .1 .1 .0)
+    (s .pre .1 .1 .1 .1 .1 .0) in
     let x = getD (a .work .now) (a .half + a .head) 0 in
     (omega (arith, div-le-self x (a .g .cols)), omega (arith, mod-le x (a .g .cols)))
 
@@ -63,8 +70,26 @@ spread-inner-requires c κs =
     let s = c .before .before .before .before .before in
     let a = s .args in
     let p = s .pre in
-    let i = c .before .before .is-inner .ensures (c .before .if1 .taken) in
-    (p .0, (p .1 .0, (p .1 .1 .0, (p .1 .1 .1 .0, (p .1 .1 .1 .1 .0, (spread-start (a .g) (a .half) (a .k) (a .v) (a .head) (a .len) _ (a .work .now) (s .pre .1 .1 .1 .1 .1 .1 .0) (s .pre .1 .1 .1 .1 .1 .0), (i, p .1 .1 .1 .1 .1 .1 .1)))))))
+    let i = c .before .before .is-inner .ensures (c .before .if1 .taken) in (
+      p .0,
+      (
+        p .1 .0,
+        (
+          p .1 .1 .0,
+          (
+            p .1 .1 .1 .0,
+            (
+              p .1 .1 .1 .1 .0,
+              (
+                spread-start (a .g) (a .half) (a .k) (a .v) (a .head) (a .len) _ (a .work .now) (s .pre .1 .1 .1 .1 .1 .1 .0)
+                    (s .pre .1 .1 .1 .1 .1 .0),
+                (i, p .1 .1 .1 .1 .1 .1 .1),
+              ),
+            ),
+          ),
+        ),
+      ),
+    )
 
 same-length : tie.Need-same-length
 same-length c = search needs
@@ -76,8 +101,24 @@ spread-border-requires : tie.Need-spread-border-requires
 spread-border-requires c κs =
     let s = c .before .before .before .before .before in
     let a = s .args in
-    let p = s .pre in
-    (p .0, (p .1 .1 .0, (p .1 .1 .1 .0, (p .1 .1 .1 .1 .0, (spread-start (a .g) (a .half) (a .k) (a .v) (a .head) (a .len) _ (a .work .now) (s .pre .1 .1 .1 .1 .1 .1 .0) (s .pre .1 .1 .1 .1 .1 .0), first-on (a .g) (a .half) (a .k) (a .v) (a .head) (a .len) _ (a .work .now) (s .pre .1 .1 .1 .1 .1 .1 .0) (s .pre .1 .1 .1 .1 .1 .0))))))
+    let p = s .pre in (
+      p .0,
+      (
+        p .1 .1 .0,
+        (
+          p .1 .1 .1 .0,
+          (
+            p .1 .1 .1 .1 .0,
+            (
+              spread-start (a .g) (a .half) (a .k) (a .v) (a .head) (a .len) _ (a .work .now) (s .pre .1 .1 .1 .1 .1 .1 .0)
+                  (s .pre .1 .1 .1 .1 .1 .0),
+              first-on (a .g) (a .half) (a .k) (a .v) (a .head) (a .len) _ (a .work .now) (s .pre .1 .1 .1 .1 .1 .1 .0)
+                  (s .pre .1 .1 .1 .1 .1 .0),
+            ),
+          ),
+        ),
+      ),
+    )
 
 same-length-2 : tie.Need-same-length-2
 same-length-2 c = search needs

@@ -16,7 +16,8 @@ use Rattle.flood.proofs.touch_any.Reads as touch-any-reads
 
 abbrev Inv-loop : tie.InvT-loop
 Inv-loop g half k v head len x work₀ n tail₀ p₀ work tail p =
-    (p ≤ 8) × (length work ≡ length work₀) × (frontOf (size g) work ≡ frontOf (size g) work₀) × Spread g (frontOf (size g) work₀) (backOf (size g) half work) k v head tail x p
+    (p ≤ 8) × (length work ≡ length work₀) × (frontOf (size g) work ≡ frontOf (size g) work₀)
+    × Spread g (frontOf (size g) work₀) (backOf (size g) half work) k v head tail x p
 
 abbrev μ-loop : tie.MeasureT-loop
 μ-loop g half k v head len x work₀ n tail₀ p₀ work tail p = 8 - p
@@ -34,8 +35,10 @@ touch-any-requires : tie.Need-touch-any-requires Inv-loop μ-loop
 touch-any-requires c κs =
     let s = c .before .before .before .before .before .before in
     let a = s .args in
-    let l = c .before .before .before .loop in
-    (s .pre .0, (s .pre .1 .0, (omega arith, (s .pre .1 .1 .1 .0, during-room (a .g) _ _ (a .k) (a .v) (a .head) (l .tail) (l .inv .3 .during)))))
+    let l = c .before .before .before .loop in (
+      s .pre .0,
+      (s .pre .1 .0, (omega arith, (s .pre .1 .1 .1 .0, during-room (a .g) _ _ (a .k) (a .v) (a .head) (l .tail) (l .inv .3 .during)))),
+    )
 
 add-p : tie.Need-add-p Inv-loop μ-loop
 add-p c = omega arith
@@ -48,8 +51,12 @@ loop-again c =
     let a = c .before .before .before .before .before .before .before .before .before .args in
     let l = c .before .before .before .before .before .before .loop in
     let t = c .before .before .touch-any in
-    let e = c .before .before .before .before .neighbour .ensures in
-    (omega arith, t .kept .1 .1 .1 .1 .1 .0 ∙ l .inv .1, t .ensures .0 ∙ l .inv .2, spread-more (a .g) _ _ (a .k) (a .v) (a .head) (l .tail) _ (l .p) (l .inv .3) (omega arith) e (rw (l .inv .2) at (t .ensures .1)))
+    let e = c .before .before .before .before .neighbour .ensures in (
+      omega arith,
+      t .kept .1 .1 .1 .1 .1 .0 ∙ l .inv .1,
+      t .ensures .0 ∙ l .inv .2,
+      spread-more (a .g) _ _ (a .k) (a .v) (a .head) (l .tail) _ (l .p) (l .inv .3) (omega arith) e (rw (l .inv .2) at (t .ensures .1)),
+    )
 
 same-length : tie.Need-same-length Inv-loop μ-loop
 same-length c = c .before .loop .inv .1

@@ -27,7 +27,8 @@ reach-requires c κs =
     let a = s .args in
     let W = c .before .before .wanted .ensures .0 (not-false _ (c .before .if1 .left)) in
     let room = s .pre .1 .1 .1 .1 .0 (a .m) (W .0 .0) (W .2) in
-    (s .pre .0, (s .pre .1 .0, (s .pre .1 .1 .0, (s .pre .1 .1 .1 .0, (wanted-low (a .n) (a .half) (a .v) (a .m) (a .work .now) W, (W .0 .0, room))))))
+    let q = wanted-low (a .n) (a .half) (a .v) (a .m) (a .work .now) W in
+    (s .pre .0, (s .pre .1 .0, (s .pre .1 .1 .0, (s .pre .1 .1 .1 .0, (q, (W .0 .0, room))))))
 
 same-length-2 : tie.Need-same-length-2
 same-length-2 c = search needs
@@ -39,7 +40,8 @@ returns-2 c =
     let W = c .before .before .before .before .before .wanted .ensures .0 (not-false _ (c .before .before .before .before .if1 .left)) in
     let room = s .pre .1 .1 .1 .1 .0 (a .m) (W .0 .0) (W .2) in
     let r = c .before .before .reach in
-    touch-yes (a .n) (a .half) (a .v) (a .len) (a .m) (a .work .now) (r .last .1 .1 .1 .1 .1 .0) (s .pre .1 .0) (s .pre .1 .1 .0) room (r .ensures .0) (r .ensures .1) W
+    touch-yes (a .n) (a .half) (a .v) (a .len) (a .m) (a .work .now) (r .last .1 .1 .1 .1 .1 .0) (s .pre .1 .0) (s .pre .1 .1 .0) room
+    (r .ensures .0) (r .ensures .1) W
 
 pub touch-spec : {M : Type 1} → statement M
 touch-spec =

@@ -29,37 +29,57 @@ cast-c : tie.Need-cast-c
 cast-c c =
     let s = c .before .before .before in
     let a = s .args in
-    omega (arith, cell-on (a .g) (a .half) (a .k) (a .len) (a .work .now) (s .pre .1 .1 .0) (s .pre .1 .1 .1 .0) (s .pre .1 .1 .1 .1 .0) (s .pre .1 .1 .1 .1 .1 .0))
+    omega (
+      arith,
+      cell-on (a .g) (a .half) (a .k) (a .len) (a .work .now) (s .pre .1 .1 .0) (s .pre .1 .1 .1 .0) (s .pre .1 .1 .1 .1 .0)
+          (s .pre .1 .1 .1 .1 .1 .0),
+    )
 
 mul-v : tie.Need-mul-v
 mul-v c =
     let s = c .before .before .before in
     let a = s .args in
-    omega (arith, cell-on (a .g) (a .half) (a .k) (a .len) (a .work .now) (s .pre .1 .1 .0) (s .pre .1 .1 .1 .0) (s .pre .1 .1 .1 .1 .0) (s .pre .1 .1 .1 .1 .1 .0))
+    omega (
+      arith,
+      cell-on (a .g) (a .half) (a .k) (a .len) (a .work .now) (s .pre .1 .1 .0) (s .pre .1 .1 .1 .0) (s .pre .1 .1 .1 .1 .0)
+          (s .pre .1 .1 .1 .1 .1 .0),
+    )
 
 slice-read-v : tie.Need-slice-read-v
 slice-read-v c =
     let s = c .before .before .before .before in
     let a = s .args in
-    omega (arith, cell-on (a .g) (a .half) (a .k) (a .len) (a .work .now) (s .pre .1 .1 .0) (s .pre .1 .1 .1 .0) (s .pre .1 .1 .1 .1 .0) (s .pre .1 .1 .1 .1 .1 .0))
+    omega (
+      arith,
+      cell-on (a .g) (a .half) (a .k) (a .len) (a .work .now) (s .pre .1 .1 .0) (s .pre .1 .1 .1 .0) (s .pre .1 .1 .1 .1 .0)
+          (s .pre .1 .1 .1 .1 .1 .0),
+    )
 
 returns : tie.Need-returns
 returns c =
     let s = c .before .before .before .before .before in
-    let a = s .args in
-    (refl, visit-void (a .g) (a .half) (a .k) (a .len) (a .work .now) (s .pre .1 .1 .0) (s .pre .1 .1 .1 .0) (s .pre .1 .1 .1 .1 .0) (s .pre .1 .1 .1 .1 .1 .0) (s .pre .1 .1 .1 .1 .1 .1 .0) (c .if1 .taken))
+    let a = s .args in (
+      refl,
+      visit-void (a .g) (a .half) (a .k) (a .len) (a .work .now) (s .pre .1 .1 .0) (s .pre .1 .1 .1 .0) (s .pre .1 .1 .1 .1 .0)
+          (s .pre .1 .1 .1 .1 .1 .0) (s .pre .1 .1 .1 .1 .1 .1 .0) (c .if1 .taken),
+    )
 
 returns-2 : tie.Need-returns-2
 returns-2 c =
     let s = c .before .before .before .before .before .before in
-    let a = s .args in
-    (refl, visit-reached (a .g) (a .half) (a .k) (a .len) (a .work .now) (s .pre .1 .1 .0) (s .pre .1 .1 .1 .0) (s .pre .1 .1 .1 .1 .0) (s .pre .1 .1 .1 .1 .1 .0) (s .pre .1 .1 .1 .1 .1 .1 .0) (c .if2 .taken))
+    let a = s .args in (
+      refl,
+      visit-reached (a .g) (a .half) (a .k) (a .len) (a .work .now) (s .pre .1 .1 .0) (s .pre .1 .1 .1 .0) (s .pre .1 .1 .1 .1 .0)
+          (s .pre .1 .1 .1 .1 .1 .0) (s .pre .1 .1 .1 .1 .1 .1 .0) (c .if2 .taken),
+    )
 
 is-opening-requires : tie.Need-is-opening-requires
 is-opening-requires c κs =
     let s = c .before .before .before .before .before .before .before in
     let a = s .args in
-    (s .pre .0, (s .pre .1 .0, (omega arith, (visit-cell (a .g) (a .half) (a .k) (a .len) (a .work .now) (s .pre .1 .1 .0) (s .pre .1 .1 .1 .0) (s .pre .1 .1 .1 .1 .0) (s .pre .1 .1 .1 .1 .1 .0) (s .pre .1 .1 .1 .1 .1 .1 .0) (c .before .before .if1 .left) (c .before .if2 .left), s .pre .1 .1 .1 .1 .1 .1 .1))))
+    let q = visit-cell (a .g) (a .half) (a .k) (a .len) (a .work .now) (s .pre .1 .1 .0) (s .pre .1 .1 .1 .0) (s .pre .1 .1 .1 .1 .0)
+    (s .pre .1 .1 .1 .1 .1 .0) (s .pre .1 .1 .1 .1 .1 .1 .0) (c .before .before .if1 .left) (c .before .if2 .left) in
+    (s .pre .0, (s .pre .1 .0, (omega arith, (q, s .pre .1 .1 .1 .1 .1 .1 .1))))
 
 same-length : tie.Need-same-length
 same-length c = search needs
@@ -67,16 +87,22 @@ same-length c = search needs
 returns-3 : tie.Need-returns-3
 returns-3 c =
     let s = c .before .before .before .before .before .before .before .before .before in
-    let a = s .args in
-    (refl, visit-closed (a .g) (a .half) (a .k) (a .len) (a .work .now) (s .pre .1 .1 .0) (s .pre .1 .1 .1 .0) (s .pre .1 .1 .1 .1 .0) (s .pre .1 .1 .1 .1 .1 .0) (s .pre .1 .1 .1 .1 .1 .1 .0) (c .before .is-opening .ensures .1 (not-true _ (c .if3 .taken))))
+    let a = s .args in (
+      refl,
+      visit-closed (a .g) (a .half) (a .k) (a .len) (a .work .now) (s .pre .1 .1 .0) (s .pre .1 .1 .1 .0) (s .pre .1 .1 .1 .1 .0)
+          (s .pre .1 .1 .1 .1 .1 .0) (s .pre .1 .1 .1 .1 .1 .1 .0) (c .before .is-opening .ensures .1 (not-true _ (c .if3 .taken))),
+    )
 
 reach-requires : tie.Need-reach-requires
 reach-requires c κs =
     let s = c .before .before .before .before .before .before .before .before .before .before in
     let a = s .args in
     let low = c .before .before .before .before .if2 .left in
-    let room = visit-room (a .g) (a .half) (a .k) (a .len) (a .work .now) (s .pre .1 .1 .0) (s .pre .1 .1 .1 .0) (s .pre .1 .1 .1 .1 .0) (s .pre .1 .1 .1 .1 .1 .0) (s .pre .1 .1 .1 .1 .1 .1 .0) (c .before .before .before .before .before .if1 .left) low in
-    (s .pre .0, (s .pre .1 .1 .0, (s .pre .1 .1 .1 .0, (omega arith, (low, (cell-on (a .g) (a .half) (a .k) (a .len) (a .work .now) (s .pre .1 .1 .0) (s .pre .1 .1 .1 .0) (s .pre .1 .1 .1 .1 .0) (s .pre .1 .1 .1 .1 .1 .0), room))))))
+    let room = visit-room (a .g) (a .half) (a .k) (a .len) (a .work .now) (s .pre .1 .1 .0) (s .pre .1 .1 .1 .0) (s .pre .1 .1 .1 .1 .0)
+    (s .pre .1 .1 .1 .1 .1 .0) (s .pre .1 .1 .1 .1 .1 .1 .0) (c .before .before .before .before .before .if1 .left) low in
+    let q = cell-on (a .g) (a .half) (a .k) (a .len) (a .work .now) (s .pre .1 .1 .0) (s .pre .1 .1 .1 .0) (s .pre .1 .1 .1 .1 .0)
+    (s .pre .1 .1 .1 .1 .1 .0) in
+    (s .pre .0, (s .pre .1 .1 .0, (s .pre .1 .1 .1 .0, (omega arith, (low, (q, room))))))
 
 drain-requires : tie.Need-drain-requires
 drain-requires c κs =
@@ -84,23 +110,30 @@ drain-requires c κs =
     let a = s .args in
     let some = c .before .before .before .before .before .before .before .before .before .if1 .left in
     let low = c .before .before .before .before .before .before .before .before .if2 .left in
-    let opened = c .before .before .before .before .before .before .is-opening .ensures .0 (not-false _ (c .before .before .before .before .before .if3 .left)) in
+    let opened = c .before .before .before .before .before .before .is-opening .ensures .0
+    (not-false _ (c .before .before .before .before .before .if3 .left)) in
     let t = c .before .before .before .reach in
-    (s .pre .0, (s .pre .1 .0, (s .pre .1 .1 .0, (omega arith, (omega arith, (visit-first (a .g) (a .half) (a .k) (a .len) (a .work .now) (s .pre .1 .1 .0) (s .pre .1 .1 .1 .0) (s .pre .1 .1 .1 .1 .0) (s .pre .1 .1 .1 .1 .1 .0) (s .pre .1 .1 .1 .1 .1 .1 .0) some low opened (t .last .1 .1 .1 .1 .1 .0) (t .ensures .1) (t .ensures .0), s .pre .1 .1 .1 .1 .1 .1 .1))))))
+    let r = visit-first (a .g) (a .half) (a .k) (a .len) (a .work .now) (s .pre .1 .1 .0) (s .pre .1 .1 .1 .0) (s .pre .1 .1 .1 .1 .0)
+    (s .pre .1 .1 .1 .1 .1 .0) (s .pre .1 .1 .1 .1 .1 .1 .0) some low opened (t .last .1 .1 .1 .1 .1 .0) (t .ensures .1) (t .ensures .0) in
+    (s .pre .0, (s .pre .1 .0, (s .pre .1 .1 .0, (omega arith, (omega arith, (r, s .pre .1 .1 .1 .1 .1 .1 .1))))))
 
 same-length-2 : tie.Need-same-length-2
 same-length-2 c = search needs
 
 returns-4 : tie.Need-returns-4
 returns-4 c =
-    let s = c .before .before .before .before .before .before .before .before .before .before .before .before .before .before .before .before .before in
+    let m = c .before .before .before .before .before .before in
+    let b = m .before .before .before .before .before in
+    let s = b .before .before .before .before .before .before in
     let a = s .args in
-    let some = c .before .before .before .before .before .before .before .before .before .before .before .before .if1 .left in
-    let low = c .before .before .before .before .before .before .before .before .before .before .before .if2 .left in
-    let opened = c .before .before .before .before .before .before .before .before .before .is-opening .ensures .0 (not-false _ (c .before .before .before .before .before .before .before .before .if3 .left)) in
-    let t = c .before .before .before .before .before .before .reach in
+    let some = b .before .if1 .left in
+    let low = b .if2 .left in
+    let opened = m .before .before .before .is-opening .ensures .0 (not-false _ (m .before .before .if3 .left)) in
+    let t = m .reach in
     let d = c .before .before .drain in
-    visit-end (a .g) (a .half) (a .k) (a .len) (a .work .now) (s .pre .1 .1 .0) (s .pre .1 .1 .1 .0) (s .pre .1 .1 .1 .1 .0) (s .pre .1 .1 .1 .1 .1 .0) (s .pre .1 .1 .1 .1 .1 .1 .0) some low opened (t .last .1 .1 .1 .1 .1 .0) (t .ensures .1) _ _ _ (d .ensures .0) (d .ensures .1)
+    visit-end (a .g) (a .half) (a .k) (a .len) (a .work .now) (s .pre .1 .1 .0) (s .pre .1 .1 .1 .0) (s .pre .1 .1 .1 .1 .0)
+    (s .pre .1 .1 .1 .1 .1 .0) (s .pre .1 .1 .1 .1 .1 .1 .0) some low opened (t .last .1 .1 .1 .1 .1 .0) (t .ensures .1) _ _ _
+    (d .ensures .0) (d .ensures .1)
 
 pub visit-spec : {M : Type 1} → statement M
 visit-spec =

@@ -29,7 +29,8 @@ add-result : tie.Need-add-result
 add-result c = search needs
 
 same-length : tie.Need-same-length
-same-length c = simp length-set (c .before .before .put-hex2 .kept .0 ∙ c .before .before .before .before .before .before .put-hex .kept .0)
+same-length c =
+    simp length-set (c .before .before .put-hex2 .kept .0 ∙ c .before .before .before .before .before .before .put-hex .kept .0)
 
 returns : tie.Need-returns
 unfolding headerText

@@ -27,7 +27,8 @@ add-result c = search needs
 
 same-length : tie.Need-same-length
 same-length c =
-    simp length-set (c .before .before .put-hex3 .kept .0 ∙ c .before .before .before .before .before .before .put-hex2 .kept .0 ∙ c .before .before .before .before .before .before .before .before .before .before .put-hex .kept .0)
+    let b = c .before .before .before .before .before .before in
+    simp length-set (c .before .before .put-hex3 .kept .0 ∙ b .put-hex2 .kept .0 ∙ b .before .before .before .before .put-hex .kept .0)
 
 returns : tie.Need-returns
 returns c =

@@ -31,9 +31,10 @@ same-length c = search needs
 
 returns : tie.Need-returns
 returns c =
-    let s = c .before .before .before .before .before .before .before .before .before .before .before .before .before .before .before .before .before .before .before .before .before .before .before .before in
-    let top = c .before .before .before .before .before .before .before .before .before .before .before .before .before .before .before .before .before .before .header .ensures in
-    let filled = c .before .before .before .before .before .before .before .before .before .before .before .before .before .before .elevations-sheet .ensures in
+    let b = c .before .before .before .before .before .before .before .before .before .before .before .before .before .before in
+    let s = b .before .before .before .before .before .before .before .before .before .before in
+    let top = b .before .before .before .before .header .ensures in
+    let filled = b .elevations-sheet .ensures in
     let codes = c .before .before .before .before .before .before .before .before .before .before .codes-sheet .ensures in
     let counts = c .before .before .before .before .before .before .numbers-sheet .ensures in
     let labels = c .before .before .numbers-sheet2 .ensures in

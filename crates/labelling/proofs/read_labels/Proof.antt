@@ -47,13 +47,22 @@ loop-less : tie.Need-loop-less Inv-loop μ-loop
 loop-less c = omega arith
 
 loop-again : tie.Need-loop-again Inv-loop μ-loop
-loop-again c = let l = c .before .before .loop in let t = c .before .loop-test .taken in let e = l .inv .1 in (omega arith, simp length-set e, filled-more _ (l .c) (l .labels) _ (omega arith) (l .inv .2) refl)
+loop-again c =
+    let l = c .before .before .loop in
+    let t = c .before .loop-test .taken in
+    let e = l .inv .1 in
+    (omega arith, simp length-set e, filled-more _ (l .c) (l .labels) _ (omega arith) (l .inv .2) refl)
 
 same-length : tie.Need-same-length Inv-loop μ-loop
 same-length c = let s = c .before .before in c .before .loop .inv .1 ∙ sym (s .pre .1 .1 .0)
 
 returns : tie.Need-returns Inv-loop μ-loop
-returns c = let s = c .before .before in let l = c .before .loop in let h = l .inv .0 in let e : l .c ≡ s .args .n = omega arith in is-table (s .args .n) _ (l .labels) 0 (l .inv .1) (λ k b. l .inv .2 k (omega arith))
+returns c =
+    let s = c .before .before in
+    let l = c .before .loop in
+    let h = l .inv .0 in
+    let e : l .c ≡ s .args .n = omega arith in
+    is-table (s .args .n) _ (l .labels) 0 (l .inv .1) (λ k b. l .inv .2 k (omega arith))
 
 pub read-labels-spec : {M : Type 1} → statement M
 read-labels-spec =

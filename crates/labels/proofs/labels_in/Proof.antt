@@ -21,7 +21,9 @@ labels-of-requires c κs =
     let s = c .before .before .before .before .before .before .before .before .before .before in
     let v = c .before .before .before .before .receivers-from in
     let f = s .pre .0 .cells in
-    (omega arith, (let k = v .kept .1 .1 .0 in let h = s .pre .1 .1 .1 .0 in omega arith, (marks (s .args .g) (now (s .args .codes)) (drop (size (s .args .g)) (now (s .args .tail))) (v .last .1 .1 .0) (s .pre .1 .0) (v .ensures), s .pre .1 .1 .0)))
+    let q = marks (s .args .g) (now (s .args .codes)) (drop (size (s .args .g)) (now (s .args .tail))) (v .last .1 .1 .0) (s .pre .1 .0)
+    (v .ensures) in
+    (omega arith, (let k = v .kept .1 .1 .0 in let h = s .pre .1 .1 .1 .0 in omega arith, (q, s .pre .1 .1 .0)))
 
 same-length : tie.Need-same-length
 same-length c = search needs
@@ -34,7 +36,8 @@ returns c =
     let s = c .before .before .before .before .before .before .before .before .before .before .before .before .before .before .before in
     let v = c .before .before .before .before .before .before .before .before .before .receivers-from in
     let l = c .before .before .before .before .labels-of in
-    sheet-labels (s .args .g) (now (s .args .codes)) (drop (size (s .args .g)) (now (s .args .tail))) (v .last .1 .1 .0) (s .pre .1 .0) (v .ensures) (now (s .args .labels)) (l .last .1 .1 .0) (l .result) (l .ensures)
+    sheet-labels (s .args .g) (now (s .args .codes)) (drop (size (s .args .g)) (now (s .args .tail))) (v .last .1 .1 .0) (s .pre .1 .0)
+    (v .ensures) (now (s .args .labels)) (l .last .1 .1 .0) (l .result) (l .ensures)
 
 pub labels-in-spec : {M : Type 1} → statement M
 labels-in-spec =

@@ -12,7 +12,8 @@ use Rattle.pour_columns.proofs.count_on.Statement.{statement}
 use Rattle.pour_columns.proofs.count_on.Tie as tie
 
 abbrev Inv-loop : tie.InvT-loop
-Inv-loop g elevations labels first pairs₀ ranks₀ n₀ k₀ pairs ranks n k = (length pairs ≡ 16384) × (length ranks ≡ 16384) × Between g elevations labels (getD pairs 16383 0) n k
+Inv-loop g elevations labels first pairs₀ ranks₀ n₀ k₀ pairs ranks n k =
+    (length pairs ≡ 16384) × (length ranks ≡ 16384) × Between g elevations labels (getD pairs 16383 0) n k
 
 abbrev μ-loop : tie.MeasureT-loop
 μ-loop g elevations labels first pairs₀ ranks₀ n₀ k₀ pairs ranks n k = (length (pourPoints g elevations labels) - n) + k

@@ -10,13 +10,15 @@ use Rattle.pour_columns.proofs.put_digits.Statement.{statement}
 use Rattle.pour_columns.proofs.put_digits.Tie as tie
 
 abbrev Inv-loop : tie.InvT-loop
-Inv-loop words k place divisor modulus column₀ i₀ column i = (i ≤ k) × Put 0 i place (λ j. getD words j 0 / divisor % modulus) column₀ column
+Inv-loop words k place divisor modulus column₀ i₀ column i =
+    (i ≤ k) × Put 0 i place (λ j. getD words j 0 / divisor % modulus) column₀ column
 
 abbrev μ-loop : tie.MeasureT-loop
 μ-loop words k place divisor modulus column₀ i₀ column i = k - i
 
 loop-holds : tie.Need-loop-holds Inv-loop μ-loop
-loop-holds c = let s = c in (omega arith, put-none 0 (s .args .place) (λ j. getD (s .args .words .now) j 0 / s .args .divisor % s .args .modulus))
+loop-holds c =
+    let s = c in (omega arith, put-none 0 (s .args .place) (λ j. getD (s .args .words .now) j 0 / s .args .divisor % s .args .modulus))
 
 mul-column : tie.Need-mul-column Inv-loop μ-loop
 mul-column c = omega arith
@@ -31,7 +33,14 @@ rem-column : tie.Need-rem-column Inv-loop μ-loop
 rem-column c = omega arith
 
 cast-column : tie.Need-cast-column Inv-loop μ-loop
-cast-column c = let s = c .before .before .before in let l = c .before .before .loop in omega (arith, digit-small (getD (s .args .words .now) (l .i) 0) (s .args .divisor) (s .args .modulus) (s .pre .1 .1 .1 .1 .0) (s .pre .1 .1 .1 .1 .1))
+cast-column c =
+    let s = c .before .before .before in
+    let l = c .before .before .loop in
+    omega (
+      arith,
+      digit-small (getD (s .args .words .now) (l .i) 0) (s .args .divisor) (s .args .modulus) (s .pre .1 .1 .1 .1 .0)
+          (s .pre .1 .1 .1 .1 .1),
+    )
 
 add-column : tie.Need-add-column Inv-loop μ-loop
 add-column c = let p = c .before .before .loop .inv .1 .long in omega arith
@@ -53,8 +62,11 @@ loop-again c =
     let s = c .before .before .before in
     let l = c .before .before .loop in
     let p = l .inv .1 .long in
-    let t = c .before .loop-test .taken in
-    (omega arith, put-more 0 (s .args .place) (λ j. getD (s .args .words .now) j 0 / s .args .divisor % s .args .modulus) (l .i) _ (l .column) (omega arith) refl (l .inv .1))
+    let t = c .before .loop-test .taken in (
+      omega arith,
+      put-more 0 (s .args .place) (λ j. getD (s .args .words .now) j 0 / s .args .divisor % s .args .modulus) (l .i) _
+          (l .column) (omega arith) refl (l .inv .1),
+    )
 
 same-length : tie.Need-same-length Inv-loop μ-loop
 same-length c = c .before .loop .inv .1 .long
@@ -63,7 +75,8 @@ returns : tie.Need-returns Inv-loop μ-loop
 returns c =
     let s = c .before .before in
     let l = c .before .loop in
-    put-end 0 (s .args .place) (λ j. getD (s .args .words .now) j 0 / s .args .divisor % s .args .modulus) (l .i) (s .args .k) (omega arith) (l .inv .1)
+    put-end 0 (s .args .place) (λ j. getD (s .args .words .now) j 0 / s .args .divisor % s .args .modulus) (l .i) (s .args .k)
+    (omega arith) (l .inv .1)
 
 pub put-digits-spec : {M : Type 1} → statement M
 put-digits-spec =

@@ -14,13 +14,15 @@ use Rattle.pour_columns.proofs.put_elevations.Statement.{statement}
 use Rattle.pour_columns.proofs.put_elevations.Tie as tie
 
 abbrev Inv-loop : tie.InvT-loop
-Inv-loop words k place column₀ i₀ column i = (i ≤ k) × Put (pos 0) i place (λ j. levelOf (getD words j 0 / 16777216 % 65536)) column₀ column
+Inv-loop words k place column₀ i₀ column i =
+    (i ≤ k) × Put (pos 0) i place (λ j. levelOf (getD words j 0 / 16777216 % 65536)) column₀ column
 
 abbrev μ-loop : tie.MeasureT-loop
 μ-loop words k place column₀ i₀ column i = k - i
 
 loop-holds : tie.Need-loop-holds Inv-loop μ-loop
-loop-holds c = let s = c in (omega arith, put-none (pos 0) (s .args .place) (λ j. levelOf (getD (s .args .words .now) j 0 / 16777216 % 65536)))
+loop-holds c =
+    let s = c in (omega arith, put-none (pos 0) (s .args .place) (λ j. levelOf (getD (s .args .words .now) j 0 / 16777216 % 65536)))
 
 mul-elevation : tie.Need-mul-elevation Inv-loop μ-loop
 mul-elevation c = omega arith
@@ -56,7 +58,8 @@ loop-again c =
     let p = l .inv .1 .long in
     let t = c .before .before .loop-test .taken in (
       omega arith,
-      put-more (pos 0) (s .args .place) (λ j. levelOf (getD (s .args .words .now) j 0 / 16777216 % 65536)) (l .i) _ (l .column) (omega arith) (toZ-ofZ (sfits-of (c .elevation .ok)) ∙ c .elevation .ensures) (l .inv .1),
+      put-more (pos 0) (s .args .place) (λ j. levelOf (getD (s .args .words .now) j 0 / 16777216 % 65536)) (l .i) _ (l .column)
+          (omega arith) (toZ-ofZ (sfits-of (c .elevation .ok)) ∙ c .elevation .ensures) (l .inv .1),
     )
 
 same-length : tie.Need-same-length Inv-loop μ-loop
@@ -66,7 +69,8 @@ returns : tie.Need-returns Inv-loop μ-loop
 returns c =
     let s = c .before .before in
     let l = c .before .loop in
-    put-end (pos 0) (s .args .place) (λ j. levelOf (getD (s .args .words .now) j 0 / 16777216 % 65536)) (l .i) (s .args .k) (omega arith) (l .inv .1)
+    put-end (pos 0) (s .args .place) (λ j. levelOf (getD (s .args .words .now) j 0 / 16777216 % 65536)) (l .i) (s .args .k) (omega arith)
+    (l .inv .1)
 
 pub put-elevations-spec : {M : Type 1} → statement M
 put-elevations-spec =

@@ -12,20 +12,26 @@ use Rattle.pour_columns.proofs.write_all.Statement.{statement}
 use Rattle.pour_columns.proofs.write_all.Tie as tie
 
 abbrev Inv-loop : tie.InvT-loop
-Inv-loop g elevations labels pairs₀ ranks₀ smaller₀ larger₀ elevation₀ cell₀ limit₀ n₀ k₀ pairs ranks smaller larger elevation cell limit n k =
+Inv-loop g elevations labels pairs₀ ranks₀ smaller₀ larger₀ elevation₀ cell₀ limit₀ n₀ k₀ pairs ranks smaller larger elevation cell
+    limit n k =
     (length pairs ≡ 16384)
     × (length ranks ≡ 16384)
     × Between g elevations labels limit n k
     × ColumnsTo (pourPoints g elevations labels) n smaller₀ smaller larger₀ larger elevation₀ elevation cell₀ cell
 
 abbrev μ-loop : tie.MeasureT-loop
-μ-loop g elevations labels pairs₀ ranks₀ smaller₀ larger₀ elevation₀ cell₀ limit₀ n₀ k₀ pairs ranks smaller larger elevation cell limit n k =
+μ-loop g elevations labels pairs₀ ranks₀ smaller₀ larger₀ elevation₀ cell₀ limit₀ n₀ k₀ pairs ranks smaller larger elevation cell
+    limit n k =
     (length (pourPoints g elevations labels) - n) + k
 
 loop-holds : tie.Need-loop-holds Inv-loop μ-loop
 loop-holds c =
-    let s = c .before .before .before .before in
-    (s .pre .0, s .pre .1 .0, between-none (s .args .g) (s .args .elevations .now) (s .args .labels .now) (s .pre .1 .1 .1 .0) 16384 refl, columns-none)
+    let s = c .before .before .before .before in (
+      s .pre .0,
+      s .pre .1 .0,
+      between-none (s .args .g) (s .args .elevations .now) (s .args .labels .now) (s .pre .1 .1 .1 .0) 16384 refl,
+      columns-none,
+    )
 
 write-next-requires : tie.Need-write-next-requires Inv-loop μ-loop
 write-next-requires c κs =
@@ -42,9 +48,10 @@ write-next-requires c κs =
 
 add-n : tie.Need-add-n Inv-loop μ-loop
 add-n c =
-    let s = c .before .before .before .before .before .before .before .before .before .before .before .before .before .before .before .before .before .before .before .before in
-    let l = c .before .before .before .before .before .before .before .before .before .before .before .before .before .before .before .loop in
-    let t = c .before .before .before .before .before .before .before .before .before .before .before .before .before .before .loop-test .taken in
+    let m = c .before .before .before .before .before .before .before .before .before .before .before .before .before .before in
+    let s = m .before .before .before .before .before .before in
+    let l = m .before .loop in
+    let t = m .loop-test .taken in
     let g = s .args .g in
     let e = s .args .elevations .now in
     let labels = s .args .labels .now in
@@ -62,31 +69,34 @@ mul-limit : tie.Need-mul-limit Inv-loop μ-loop
 mul-limit c = omega arith
 
 element-copy-out-limit : tie.Need-element-copy-out-limit Inv-loop μ-loop
-element-copy-out-limit c = let w = c .before .before .before .before .before .before .before .write-next .ensures .0 .pairs-long in omega arith
+element-copy-out-limit c =
+    let w = c .before .before .before .before .before .before .before .write-next .ensures .0 .pairs-long in omega arith
 
 loop-less : tie.Need-loop-less Inv-loop μ-loop
 loop-less c =
-    let s = c .before .before .before .before .before .before .before .before .before .before .before .before .before .before .before .before .before .before .before .before .before in
-    let l = c .before .before .before .before .before .before .before .before .before .before .before .before .before .before .before .before .loop in
-    let t = c .before .before .before .before .before .before .before .before .before .before .before .before .before .before .before .loop-test .taken in
+    let m = c .before .before .before .before .before .before .before .before in
+    let s = m .before .before .before .before .before .before .before .before .before .before .before .before .before in
+    let l = m .before .before .before .before .before .before .before .before .loop in
+    let t = m .before .before .before .before .before .before .before .loop-test .taken in
     let g = s .args .g in
     let e = s .args .elevations .now in
     let labels = s .args .labels .now in
     let long = s .pre .1 .1 .1 .0 in
-    let b = c .before .before .before .before .before .before .before .before .write-next .ensures in
+    let b = m .write-next .ensures in
     let w = scan-within g e labels long (l .inv .2) t (b .1 .0) in
     omega arith
 
 loop-again : tie.Need-loop-again Inv-loop μ-loop
 loop-again c =
-    let s = c .before .before .before .before .before .before .before .before .before .before .before .before .before .before .before .before .before .before .before .before .before in
-    let l = c .before .before .before .before .before .before .before .before .before .before .before .before .before .before .before .before .loop in
-    let t = c .before .before .before .before .before .before .before .before .before .before .before .before .before .before .before .loop-test .taken in
+    let m = c .before .before .before .before .before .before .before .before in
+    let s = m .before .before .before .before .before .before .before .before .before .before .before .before .before in
+    let l = m .before .before .before .before .before .before .before .before .loop in
+    let t = m .before .before .before .before .before .before .before .loop-test .taken in
     let g = s .args .g in
     let e = s .args .elevations .now in
     let labels = s .args .labels .now in
     let long = s .pre .1 .1 .1 .0 in
-    let b = c .before .before .before .before .before .before .before .before .write-next .ensures in (
+    let b = m .write-next .ensures in (
       b .0 .pairs-long,
       b .0 .ranks-long,
       between-more g e labels long (l .inv .2) t (b .1 .0) (b .0 .within) refl,
@@ -111,7 +121,8 @@ returns c =
     let l = c .before .loop in
     let i = l .inv .2 in
     let q = s .pre .1 .1 .1 in
-    columns-whole (pourPoints (s .args .g) (s .args .elevations .now) (s .args .labels .now)) (i .last (not-full (l .k) (i .full) (c .loop-test .left))) (q .1 .1) (q .1 .0) (l .inv .3)
+    columns-whole (pourPoints (s .args .g) (s .args .elevations .now) (s .args .labels .now))
+    (i .last (not-full (l .k) (i .full) (c .loop-test .left))) (q .1 .1) (q .1 .0) (l .inv .3)
 
 pub write-all-spec : {M : Type 1} → statement M
 write-all-spec =

@@ -32,7 +32,9 @@ same-length-4 : tie.Need-same-length-4
 same-length-4 c = search needs
 
 returns : tie.Need-returns
-returns c = let b = c .before .before .before .before .before .before .before .before .before .before .before .before .before .before .scan .ensures in (b .0, (b .1, c .before .before .before .before .before .before .before .put-entries .ensures))
+returns c =
+    let m = c .before .before .before .before .before .before .before in
+    let b = m .before .before .before .before .before .before .before .scan .ensures in (b .0, (b .1, m .put-entries .ensures))
 
 pub write-next-spec : {M : Type 1} → statement M
 write-next-spec =

@@ -19,13 +19,16 @@ returns c = let a = c .before .args in rw (ne-eqb (a .larger) (a .smaller) (c .i
 
 returns-2 : tie.Need-returns-2
 unfolding allHave
-returns-2 c = let a = c .before .before .args in rw (eq-eqb (a .larger) (a .smaller) (c .before .if1 .left), ne-eqb (a .elevation) (a .smaller) (c .if2 .taken))
+returns-2 c =
+    let a = c .before .before .args in
+    rw (eq-eqb (a .larger) (a .smaller) (c .before .if1 .left), ne-eqb (a .elevation) (a .smaller) (c .if2 .taken))
 
 returns-3 : tie.Need-returns-3
 unfolding allHave
 returns-3 c =
     let a = c .before .before .args in
-    rw (eq-eqb (a .larger) (a .smaller) (c .before .if1 .left), eq-eqb (a .elevation) (a .smaller) (c .if2 .left)) (all-true (eqb (a .cell) (a .smaller)))
+    rw (eq-eqb (a .larger) (a .smaller) (c .before .if1 .left), eq-eqb (a .elevation) (a .smaller) (c .if2 .left))
+    (all-true (eqb (a .cell) (a .smaller)))
 
 pub one-length-spec : {M : Type 1} → statement M
 one-length-spec = tie.close (tie.spec returns returns-2 returns-3)

@@ -3,7 +3,8 @@ use borrow.Author.Needs.{needs}
 use Prim.Native.Nat.{_-_}
 use lib.ListN.{length}
 use Rattle.checks.proofs.Asked.{says-no, says-yes}
-use Rattle.pour_points.proofs.Promise.{promise-first, promise-lengths, promise-settled, can-scan, one-length-of, first-long, second-long, sizes-fit}
+use Rattle.pour_points.proofs.Promise.{promise-first, promise-lengths, promise-settled, can-scan, one-length-of, first-long}
+use Rattle.pour_points.proofs.Promise.{second-long, sizes-fit}
 use Rattle.pour_points.proofs.pour_points.Statement.{statement}
 use Rattle.pour_points.proofs.pour_points.Tie as tie
 
@@ -29,7 +30,8 @@ returns-2 c =
     let e = s .args .elevations .now in
     let labels = s .args .labels .now in
     let a = c .before .before .before .before .check in
-    promise-lengths g e labels (a .result) (a .ensures) (c .before .before .if1 .left) (says-no (c .before .one-length .ensures) (c .if2 .taken))
+    promise-lengths g e labels (a .result) (a .ensures) (c .before .before .if1 .left)
+    (says-no (c .before .one-length .ensures) (c .if2 .taken))
 
 settle-requires : tie.Need-settle-requires
 settle-requires c κs =
@@ -39,8 +41,13 @@ settle-requires c κs =
     let labels = s .args .labels .now in
     let a = c .before .before .before .before .before .before .before .before .check in
     let n = c .before .before .before .before .before .before .if1 .left in (
-      can-scan g labels (second-long g (length e) (length labels) (a .result) (a .ensures) n) (sizes-fit g (length e) (length labels) (a .result) (a .ensures) n),
-      (first-long g (length e) (length labels) (a .result) (a .ensures) n, one-length-of (says-yes (c .before .before .before .before .before .one-length .ensures) (c .before .before .before .before .if2 .left))),
+      can-scan g labels (second-long g (length e) (length labels) (a .result) (a .ensures) n)
+          (sizes-fit g (length e) (length labels) (a .result) (a .ensures) n),
+      (
+        first-long g (length e) (length labels) (a .result) (a .ensures) n,
+        one-length-of (says-yes (c .before .before .before .before .before .one-length .ensures)
+            (c .before .before .before .before .if2 .left)),
+      ),
     )
 
 same-length : tie.Need-same-length
@@ -57,12 +64,16 @@ same-length-4 c = search needs
 
 returns-3 : tie.Need-returns-3
 returns-3 c =
-    let s = c .before .before .before .before .before .before .before .before .before .before .before .before .before .before .before .before .before .before .before .before .before in
+    let m = c .before .before .before .before .before .before .before in
+    let b = m .before .before .before .before .before .before .before in
+    let s = b .before .before .before .before .before .before .before in
     let g = s .args .g in
     let e = s .args .elevations .now in
     let labels = s .args .labels .now in
-    let a = c .before .before .before .before .before .before .before .before .before .before .before .before .before .before .before .before .check in
-    promise-settled g e labels (a .result) (a .ensures) (c .before .before .before .before .before .before .before .before .before .before .before .before .before .before .if1 .left) (says-yes (c .before .before .before .before .before .before .before .before .before .before .before .before .before .one-length .ensures) (c .before .before .before .before .before .before .before .before .before .before .before .before .if2 .left)) (c .before .before .before .before .before .before .before .settle .ensures)
+    let a = b .before .before .check in
+    promise-settled g e labels (a .result) (a .ensures) (b .if1 .left)
+    (says-yes (m .before .before .before .before .before .before .one-length .ensures)
+    (m .before .before .before .before .before .if2 .left)) (m .settle .ensures)
 
 pub pour-points-spec : {M : Type 1} → statement M
 pour-points-spec =

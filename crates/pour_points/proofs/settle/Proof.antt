@@ -6,7 +6,9 @@ use Rattle.pour_points.proofs.settle.Statement.{statement}
 use Rattle.pour_points.proofs.settle.Tie as tie
 
 scan-requires : tie.Need-scan-requires
-scan-requires c κs = let s = c .before .before .before .before .before .before in (length-replicate {A = ℕ} 16384 0, (length-replicate {A = ℕ} 16384 0, s .pre .0))
+scan-requires c κs =
+    let s = c .before .before .before .before .before .before in
+    (length-replicate {A = ℕ} 16384 0, (length-replicate {A = ℕ} 16384 0, s .pre .0))
 
 settle-few-requires : tie.Need-settle-few-requires
 settle-few-requires c κs =

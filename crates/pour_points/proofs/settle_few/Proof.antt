@@ -40,16 +40,17 @@ same-length-4 c = search needs
 
 returns-2 : tie.Need-returns-2
 returns-2 c =
-    let s = c .before .before .before .before .before .before .before .before .before .before .before .before .before .before .before .before .before .before in
+    let m = c .before .before .before .before .before .before .before .before in
+    let s = m .before .before .before .before .before .before .before .before .before .before in
     let g = s .args .g in
     let e = s .args .elevations .now in
     let labels = s .args .labels .now in
     let long = s .pre .1 .0 in
     let b = s .pre .1 .1 .0 in
     let h = s .pre .1 .1 .1 .0 in
-    let room = c .before .before .before .before .before .before .before .before .before .before .before .before .before .if1 .left in
+    let room = m .before .before .before .before .before .if1 .left in
     settled-yes (pourPoints g e labels) (c .held .ensures) (few-are g e labels long b h) room
-    (few-written g e labels long b h room (s .pre .1 .1 .1 .1) (c .before .before .before .before .before .before .before .before .put-entries .ensures))
+    (few-written g e labels long b h room (s .pre .1 .1 .1 .1) (m .put-entries .ensures))
 
 pub settle-few-spec : {M : Type 1} → statement M
 settle-few-spec =

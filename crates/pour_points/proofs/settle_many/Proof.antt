@@ -50,12 +50,13 @@ write-all-requires c κs =
 
 held-requires : tie.Need-held-requires
 held-requires c κs =
-    let s = c .before .before .before .before .before .before .before .before .before .before .before .before .before .before .before .before .before .before .before .before .before .before in
+    let b = c .before .before .before .before .before .before .before .before .before .before .before .before .before .before .before in
+    let s = b .before .before .before .before .before .before .before in
     let g = s .args .g in
     let e = s .args .elevations .now in
     let labels = s .args .labels .now in
     let f = few-entries g e labels in
-    let n = c .before .before .before .before .before .before .before .before .before .before .before .before .before .before .before .count-on .ensures .1 .1 in
+    let n = b .count-on .ensures .1 .1 in
     let h = s .pre .1 .0 .small in
     omega arith
 
@@ -73,11 +74,14 @@ same-length-4 c = search needs
 
 returns-2 : tie.Need-returns-2
 returns-2 c =
-    let s = c .before .before .before .before .before .before .before .before .before .before .before .before .before .before .before .before .before .before .before .before .before .before .before in
+    let m = c .before .before .before .before .before .before .before .before in
+    let b = m .before .before .before .before .before .before .before .before in
+    let s = b .before .before .before .before .before .before .before in
     let g = s .args .g in
     let e = s .args .elevations .now in
     let labels = s .args .labels .now in
-    settled-yes (pourPoints g e labels) (c .held .ensures) (c .before .before .before .before .before .before .before .before .before .before .before .before .before .before .before .before .count-on .ensures .1 .1) (c .before .before .before .before .before .before .before .before .before .before .before .before .before .before .before .if1 .left) (c .before .before .before .before .before .before .before .before .write-all .ensures)
+    settled-yes (pourPoints g e labels) (c .held .ensures) (b .count-on .ensures .1 .1)
+    (m .before .before .before .before .before .before .before .if1 .left) (m .write-all .ensures)
 
 pub settle-many-spec : {M : Type 1} → statement M
 settle-many-spec =

@@ -27,19 +27,22 @@ in-range-requires-2 c κs = search needs
 returns-3 : tie.Need-returns-3
 returns-3 c =
     sym
-    (bad-cols _ _ (c .before .before .before .before .if1 .left) (sym (c .before .before .before .in-range .ensures) ∙ not-false _ (c .before .before .if2 .left))
+    (bad-cols _ _ (c .before .before .before .before .if1 .left)
+    (sym (c .before .before .before .in-range .ensures) ∙ not-false _ (c .before .before .if2 .left))
     (sym (c .before .in-range2 .ensures) ∙ not-true _ (c .if3 .taken)))
 
 returns-4 : tie.Need-returns-4
 returns-4 c =
     sym
-    (no-room _ _ (c .before .before .before .before .before .if1 .left) (sym (c .before .before .before .before .in-range .ensures) ∙ not-false _ (c .before .before .before .if2 .left))
+    (no-room _ _ (c .before .before .before .before .before .if1 .left)
+    (sym (c .before .before .before .before .in-range .ensures) ∙ not-false _ (c .before .before .before .if2 .left))
     (sym (c .before .before .in-range2 .ensures) ∙ not-false _ (c .before .if3 .left)) (c .if4 .taken))
 
 returns-5 : tie.Need-returns-5
 returns-5 c =
     sym
-    (room-enough _ _ (c .before .before .before .before .before .if1 .left) (sym (c .before .before .before .before .in-range .ensures) ∙ not-false _ (c .before .before .before .if2 .left))
+    (room-enough _ _ (c .before .before .before .before .before .if1 .left)
+    (sym (c .before .before .before .before .in-range .ensures) ∙ not-false _ (c .before .before .before .if2 .left))
     (sym (c .before .before .in-range2 .ensures) ∙ not-false _ (c .before .if3 .left)) (c .if4 .left))
 
 pub check-size-spec : {M : Type 1} → statement M

@@ -28,12 +28,14 @@ is-shaped-requires c κs = search needs
 returns-3 : tie.Need-returns-3
 returns-3 c =
     let bad = c .before .before .before .first-bad-byte .ensures in
-    sym (shaped _ (c .before .before .before .before .if1 .left) (bad .0) (omega arith) (sym (c .before .is-shaped .ensures) ∙ c .if3 .taken))
+    sym (shaped _ (c .before .before .before .before .if1 .left) (bad .0) (omega arith)
+    (sym (c .before .is-shaped .ensures) ∙ c .if3 .taken))
 
 returns-4 : tie.Need-returns-4
 returns-4 c =
     let bad = c .before .before .before .first-bad-byte .ensures in
-    sym (not-shaped _ (c .before .before .before .before .if1 .left) (bad .0) (omega arith) (sym (c .before .is-shaped .ensures) ∙ c .if3 .left))
+    sym (not-shaped _ (c .before .before .before .before .if1 .left) (bad .0) (omega arith)
+    (sym (c .before .is-shaped .ensures) ∙ c .if3 .left))
 
 pub check-text-spec : {M : Type 1} → statement M
 check-text-spec =

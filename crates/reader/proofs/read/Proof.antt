@@ -36,12 +36,15 @@ refused-requires-2 c κs = search needs
 
 returns-2 : tie.Need-returns-2
 returns-2 c =
-    let fine = sym (ap (λ (a : Answer). a .number) (c .before .before .before .before .before .before .before .check-text .ensures)) ∙ c .before .before .before .before .before .if1 .left in
-    size-refused _ _ fine _ _ _ (c .before .before .before .before .header .ensures .grid) (c .refused2 .ensures) (c .before .before .before .check-size .ensures) (c .before .if2 .taken)
+    let fine = sym (ap (λ (a : Answer). a .number) (c .before .before .before .before .before .before .before .check-text .ensures))
+    ∙ c .before .before .before .before .before .if1 .left in
+    size-refused _ _ fine _ _ _ (c .before .before .before .before .header .ensures .grid) (c .refused2 .ensures)
+    (c .before .before .before .check-size .ensures) (c .before .if2 .taken)
 
 read-lines-requires : tie.Need-read-lines-requires
 read-lines-requires c κs =
-    let fine = sym (ap (λ (a : Answer). a .number) (c .before .before .before .before .before .before .before .check-text .ensures)) ∙ c .before .before .before .before .before .if1 .left in
+    let fine = sym (ap (λ (a : Answer). a .number) (c .before .before .before .before .before .before .before .check-text .ensures))
+    ∙ c .before .before .before .before .before .if1 .left in
     let grid = c .before .before .before .before .header .ensures .grid in
     let yes = sym (ap (λ (a : Answer). a .number) (c .before .before .before .check-size .ensures)) ∙ c .before .if2 .left in
     (grid, rw grid (text-accepted _ fine .announced), size-accepted _ _ yes .0)
@@ -57,9 +60,11 @@ same-length c = search needs
 
 returns-3 : tie.Need-returns-3
 returns-3 c =
-    let fine = sym (ap (λ (a : Answer). a .number) (c .before .before .before .before .before .before .before .before .before .before .before .check-text .ensures)) ∙ c .before .before .before .before .before .before .before .before .before .if1 .left in
-    let grid = c .before .before .before .before .before .before .before .before .header .ensures .grid in
-    let yes = sym (ap (λ (a : Answer). a .number) (c .before .before .before .before .before .before .before .check-size .ensures)) ∙ c .before .before .before .before .before .if2 .left in
+    let b = c .before .before .before .before .before .before .before in
+    let fine = sym (ap (λ (a : Answer). a .number) (b .before .before .before .before .check-text .ensures))
+    ∙ b .before .before .if1 .left in
+    let grid = b .before .header .ensures .grid in
+    let yes = sym (ap (λ (a : Answer). a .number) (b .check-size .ensures)) ∙ c .before .before .before .before .before .if2 .left in
     all-read _ _ fine _ _ grid (size-accepted _ _ yes .1) (c .before .before .before .read-lines .ensures)
 
 pub read-spec : {M : Type 1} → statement M

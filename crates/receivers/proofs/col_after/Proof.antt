@@ -14,10 +14,16 @@ add-result : tie.Need-add-result
 add-result c = search needs
 
 returns : tie.Need-returns
-returns c = let s = c .before in let q = s .pre .1 .0 in ap (λ (x : ℕ). x + 1) q ∙ same-row (s .args .cols) (s .args .cell) (rw q at (s .pre .1 .1)) (rw q at (c .if1 .taken)) .1
+returns c =
+    let s = c .before in
+    let q = s .pre .1 .0 in
+    ap (λ (x : ℕ). x + 1) q ∙ same-row (s .args .cols) (s .args .cell) (rw q at (s .pre .1 .1)) (rw q at (c .if1 .taken)) .1
 
 returns-2 : tie.Need-returns-2
-returns-2 c = let s = c .before in let q = s .pre .1 .0 in next-row (s .args .cols) (s .args .cell) (rw q at (s .pre .1 .1)) (rw q at (c .if1 .left)) .1
+returns-2 c =
+    let s = c .before in
+    let q = s .pre .1 .0 in
+    next-row (s .args .cols) (s .args .cell) (rw q at (s .pre .1 .1)) (rw q at (c .if1 .left)) .1
 
 pub col-after-spec : {M : Type 1} → statement M
 col-after-spec = tie.close (tie.spec add-if1 add-result returns returns-2)

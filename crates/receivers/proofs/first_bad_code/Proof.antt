@@ -13,7 +13,9 @@ first-in-requires : tie.Need-first-in-requires
 first-in-requires c κs = c .before .bad-table .ensures
 
 returns : tie.Need-returns
-returns c = let s = c .before .before .before .before in first-bad-is (s .args .g) (now (s .args .codes)) (s .pre) (c .first-in .result) (c .first-in .ensures)
+returns c =
+    let s = c .before .before .before .before in
+    first-bad-is (s .args .g) (now (s .args .codes)) (s .pre) (c .first-in .result) (c .first-in .ensures)
 
 pub first-bad-code-spec : {M : Type 1} → statement M
 first-bad-code-spec = tie.close (tie.spec bad-table-requires first-in-requires returns)

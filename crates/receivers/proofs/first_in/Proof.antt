@@ -53,11 +53,17 @@ loop-again c =
     let k = c .before .before .before .before in
     let s = k .before in
     let x : ℕ = getD (now (s .args .codes)) (k .loop .c) 0 in
-    let b : x < 256 = omega (arith, c .before .before .shared-slice-known .given (k .loop .c)) in
-    (omega arith, below-more _ (k .loop .c) (k .loop .inv .1) (bad-no x b (λ e. c .if1 .left (ap (λ (t : List ℕ). getD t x 0) (s .pre) ∙ e))))
+    let b : x < 256 = omega (arith, c .before .before .shared-slice-known .given (k .loop .c)) in (
+      omega arith,
+      below-more _ (k .loop .c) (k .loop .inv .1)
+          (bad-no x b (λ e. c .if1 .left (ap (λ (t : List ℕ). getD t x 0) (s .pre) ∙ e))),
+    )
 
 returns-2 : tie.Need-returns-2 Inv-loop μ-loop
-returns-2 c = let k = c .before in let h = k .loop .inv .0 in record { within = h; below = k .loop .inv .1; at = λ h. let z : ⊥ = omega arith in absurd z }
+returns-2 c =
+    let k = c .before in
+    let h = k .loop .inv .0 in
+    record { within = h; below = k .loop .inv .1; at = λ h. let z : ⊥ = omega arith in absurd z }
 
 pub first-in-spec : {M : Type 1} → statement M
 first-in-spec =

@@ -22,16 +22,33 @@ add-result : tie.Need-add-result
 add-result c = search needs
 
 returns : tie.Need-returns
-returns c = let s = c .before .before .before .before in (copy-zero (s .args .g) (now (s .args .work)) (s .pre .1 .0) (s .pre .1 .1 .0) (s .args .cell) (s .pre .1 .1 .1 .0) (c .if1 .taken), omega arith)
+returns c =
+    let s = c .before .before .before .before in (
+      copy-zero (s .args .g) (now (s .args .work)) (s .pre .1 .0) (s .pre .1 .1 .0) (s .args .cell) (s .pre .1 .1 .1 .0) (c .if1 .taken),
+      omega arith,
+    )
 
 cast-pointed-at : tie.Need-cast-pointed-at
-cast-pointed-at c = let s = c .before .before .before .before in let h = copy-byte (s .args .g) (now (s .args .work)) (s .pre .1 .0) (s .pre .1 .1 .0) (s .args .cell) (s .pre .1 .1 .1 .0) (c .if1 .left) in omega arith
+cast-pointed-at c =
+    let s = c .before .before .before .before in
+    let h = copy-byte (s .args .g) (now (s .args .work)) (s .pre .1 .0) (s .pre .1 .1 .0) (s .args .cell) (s .pre .1 .1 .1 .0)
+    (c .if1 .left) in
+    omega arith
 
 pointed-at-requires : tie.Need-pointed-at-requires
-pointed-at-requires c κs = let s = c .before .before .before .before in let p = s .pre .1 .1 .1 in (s .pre .0, (p .0, (p .1 .0, (p .1 .1 .0, (copy-position (s .args .g) (now (s .args .work)) (s .pre .1 .0) (s .pre .1 .1 .0) (s .args .cell) (s .pre .1 .1 .1 .0) (c .if1 .left), p .1 .1 .1)))))
+pointed-at-requires c κs =
+    let s = c .before .before .before .before in let p = s .pre .1 .1 .1 in
+    let q = copy-position (s .args .g) (now (s .args .work)) (s .pre .1 .0) (s .pre .1 .1 .0) (s .args .cell) (s .pre .1 .1 .1 .0)
+    (c .if1 .left) in
+    (s .pre .0, (p .0, (p .1 .0, (p .1 .1 .0, (q, p .1 .1 .1)))))
 
 returns-2 : tie.Need-returns-2
-returns-2 c = let s = c .before .before .before .before .before .before in (copy-off (s .args .g) (now (s .args .work)) (s .pre .1 .0) (s .pre .1 .1 .0) (s .args .cell) (s .pre .1 .1 .1 .0) (c .before .before .if1 .left) (c .before .pointed-at .ensures) (c .if2 .taken), omega arith)
+returns-2 c =
+    let s = c .before .before .before .before .before .before in (
+      copy-off (s .args .g) (now (s .args .work)) (s .pre .1 .0) (s .pre .1 .1 .0) (s .args .cell) (s .pre .1 .1 .1 .0)
+          (c .before .before .if1 .left) (c .before .pointed-at .ensures) (c .if2 .taken),
+      omega arith,
+    )
 
 mul-if3 : tie.Need-mul-if3
 mul-if3 c = search needs
@@ -40,10 +57,22 @@ shared-slice-read-if3 : tie.Need-shared-slice-read-if3
 shared-slice-read-if3 c = search needs
 
 returns-3 : tie.Need-returns-3
-returns-3 c = let s = c .before .before .before .before .before .before .before .before in (copy-stop (s .args .g) (now (s .args .work)) (s .pre .1 .0) (s .pre .1 .1 .0) (s .args .cell) (s .pre .1 .1 .1 .0) (c .before .before .before .before .if1 .left) (c .before .before .before .pointed-at .ensures) (c .before .before .if2 .left) (c .if3 .taken), omega arith)
+returns-3 c =
+    let s = c .before .before .before .before .before .before .before .before in (
+      copy-stop (s .args .g) (now (s .args .work)) (s .pre .1 .0) (s .pre .1 .1 .0) (s .args .cell) (s .pre .1 .1 .1 .0)
+          (c .before .before .before .before .if1 .left) (c .before .before .before .pointed-at .ensures) (c .before .before .if2 .left)
+          (c .if3 .taken),
+      omega arith,
+    )
 
 returns-4 : tie.Need-returns-4
-returns-4 c = let s = c .before .before .before .before .before .before .before .before in let h = c .before .before .if2 .left in (copy-on (s .args .g) (now (s .args .work)) (s .pre .1 .0) (s .pre .1 .1 .0) (s .args .cell) (s .pre .1 .1 .1 .0) (c .before .before .before .before .if1 .left) (c .before .before .before .pointed-at .ensures) h (c .if3 .left), omega arith)
+returns-4 c =
+    let s = c .before .before .before .before .before .before .before .before in
+    let h = c .before .before .if2 .left in (
+      copy-on (s .args .g) (now (s .args .work)) (s .pre .1 .0) (s .pre .1 .1 .0) (s .args .cell) (s .pre .1 .1 .1 .0)
+          (c .before .before .before .before .if1 .left) (c .before .before .before .pointed-at .ensures) h (c .if3 .left),
+      omega arith,
+    )
 
 pub mark-of-copy-spec : {M : Type 1} → statement M
 mark-of-copy-spec =

@@ -12,13 +12,19 @@ use Rattle.receivers.proofs.pointed_at.Statement.{statement}
 use Rattle.receivers.proofs.pointed_at.Tie as tie
 
 -- what the test for an inner cell says
-at-inner : (c : tie.Then1) → Reached (c .before .before .args .g) (c .before .before .args .cell) (positionOf (c .before .before .args .code)) (getD (now (c .before .before .args .table)) (c .before .before .args .code) 0)
+at-inner : (c : tie.Then1) → Reached (c .before .before .args .g) (c .before .before .args .cell)
+    (positionOf (c .before .before .args .code)) (getD (now (c .before .before .args .table)) (c .before .before .args .code) 0)
 at-inner c =
     let s = c .before .before in
-    reached (s .args .g) (s .args .cell) (s .args .row) (s .args .col) (s .args .code) (now (s .args .table)) (s .pre .0) (s .pre .1 .0) (s .pre .1 .1 .0) (s .pre .1 .1 .1 .0) (s .pre .1 .1 .1 .1 .0) (s .pre .1 .1 .1 .1 .1) (c .before .is-inner .ensures (c .if1 .taken))
+    reached (s .args .g) (s .args .cell) (s .args .row) (s .args .col) (s .args .code) (now (s .args .table)) (s .pre .0) (s .pre .1 .0)
+    (s .pre .1 .1 .0) (s .pre .1 .1 .1 .0) (s .pre .1 .1 .1 .1 .0) (s .pre .1 .1 .1 .1 .1) (c .before .is-inner .ensures (c .if1 .taken))
 
 is-inner-requires : tie.Need-is-inner-requires
-is-inner-requires c κs = let w = place-small (c .args .g) (c .args .cell) (c .pre .1 .0) (c .pre .0) in let e = c .pre .1 .1 .0 in let f = c .pre .1 .1 .1 .0 in (rw e (w .0), rw f (w .1))
+is-inner-requires c κs =
+    let w = place-small (c .args .g) (c .args .cell) (c .pre .1 .0) (c .pre .0) in
+    let e = c .pre .1 .1 .0 in
+    let f = c .pre .1 .1 .1 .0 in
+    (rw e (w .0), rw f (w .1))
 
 mul-result : tie.Need-mul-result
 mul-result c = search needs
@@ -45,7 +51,10 @@ neighbour-requires : tie.Need-neighbour-requires
 neighbour-requires c κs = search needs
 
 returns-2 : tie.Need-returns-2
-returns-2 c = c .neighbour .ensures ∙ ap (neighbour (c .before .before .before .before .args .g) (c .before .before .before .before .args .cell)) (c .before .position .ensures)
+returns-2 c =
+    c .neighbour .ensures
+    ∙ ap (neighbour (c .before .before .before .before .args .g) (c .before .before .before .before .args .cell))
+    (c .before .position .ensures)
 
 pub pointed-at-spec : {M : Type 1} → statement M
 pointed-at-spec =

@@ -9,7 +9,10 @@ use Rattle.receivers.proofs.write_mark.Statement.{statement}
 use Rattle.receivers.proofs.write_mark.Tie as tie
 
 mark-requires : tie.Need-mark-requires
-mark-requires c κs = let s = c .before .before in let p = s .pre .1 .1 .1 in (s .pre .0, (s .pre .1 .0, (s .pre .1 .1 .0, (p .0, (p .1 .0, (p .1 .1 .0, p .1 .1 .1 .0))))))
+mark-requires c κs =
+    let s = c .before .before in
+    let p = s .pre .1 .1 .1 in
+    (s .pre .0, (s .pre .1 .0, (s .pre .1 .1 .0, (p .0, (p .1 .0, (p .1 .1 .0, p .1 .1 .1 .0))))))
 
 cast-tail : tie.Need-cast-tail
 cast-tail c = let m = c .mark .ensures .1 in omega arith

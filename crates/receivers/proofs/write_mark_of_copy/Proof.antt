@@ -9,7 +9,10 @@ use Rattle.receivers.proofs.write_mark_of_copy.Statement.{statement}
 use Rattle.receivers.proofs.write_mark_of_copy.Tie as tie
 
 mark-of-copy-requires : tie.Need-mark-of-copy-requires
-mark-of-copy-requires c κs = let s = c .before .before in let p = s .pre .1 .1 .1 .1 in (s .pre .0, (omega arith, (s .pre .1 .1 .1 .0, (p .0, (p .1 .0, (p .1 .1 .0, p .1 .1 .1))))))
+mark-of-copy-requires c κs =
+    let s = c .before .before in
+    let p = s .pre .1 .1 .1 .1 in
+    (s .pre .0, (omega arith, (s .pre .1 .1 .1 .0, (p .0, (p .1 .0, (p .1 .1 .0, p .1 .1 .1))))))
 
 cast-work : tie.Need-cast-work
 cast-work c = let m = c .mark-of-copy .ensures .1 in omega arith
@@ -27,7 +30,8 @@ same-length : tie.Need-same-length
 same-length c = simp length-set
 
 returns : tie.Need-returns
-returns c = let s = c .before .before .before in ap (set (now (s .args .work)) (s .args .half + s .args .cell)) (c .mark-of-copy .ensures .0)
+returns c =
+    let s = c .before .before .before in ap (set (now (s .args .work)) (s .args .half + s .args .cell)) (c .mark-of-copy .ensures .0)
 
 pub write-mark-of-copy-spec : {M : Type 1} → statement M
 write-mark-of-copy-spec =

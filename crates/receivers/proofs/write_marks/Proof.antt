@@ -16,7 +16,8 @@ use Rattle.receivers.proofs.write_marks.Statement.{statement}
 use Rattle.receivers.proofs.write_marks.Tie as tie
 
 abbrev Inv-loop : tie.InvT-loop
-Inv-loop g table codes tail₀ cols n cell₀ row₀ col₀ tail cell row col = (cell ≤ size g) × (row ≡ cell / g .cols) × (col ≡ cell % g .cols) × WrittenTo g codes 0 cell tail₀ tail
+Inv-loop g table codes tail₀ cols n cell₀ row₀ col₀ tail cell row col =
+    (cell ≤ size g) × (row ≡ cell / g .cols) × (col ≡ cell % g .cols) × WrittenTo g codes 0 cell tail₀ tail
 
 abbrev μ-loop : tie.MeasureT-loop
 μ-loop g table codes tail₀ cols n cell₀ row₀ col₀ tail cell row col = size g - cell
@@ -25,19 +26,43 @@ mul-n : tie.Need-mul-n Inv-loop μ-loop
 mul-n c = search needs
 
 loop-holds : tie.Need-loop-holds Inv-loop μ-loop
-loop-holds c = let s = c .before .before .before in (omega arith, omega (arith, div-le-self 0 (s .args .g .cols)), omega (arith, mod-le 0 (s .args .g .cols)), written-none (s .args .g) (now (s .args .codes)) 0 (now (s .args .tail)))
+loop-holds c =
+    let s = c .before .before .before in (
+      omega arith,
+      omega (arith, div-le-self 0 (s .args .g .cols)),
+      omega (arith, mod-le 0 (s .args .g .cols)),
+      written-none (s .args .g) (now (s .args .codes)) 0 (now (s .args .tail)),
+    )
 
 write-mark-requires : tie.Need-write-mark-requires Inv-loop μ-loop
-write-mark-requires c κs = let s = c .before .before .before .before .before .before in let l = c .before .before .loop in let e = l .inv .3 .same-length in (s .pre .0, (s .pre .1 .0, (s .pre .1 .1 .0, (c .before .loop-test .taken, (l .inv .1, (l .inv .2, (s .pre .1 .1 .1 .0, omega arith)))))))
+write-mark-requires c κs =
+    let s = c .before .before .before .before .before .before in
+    let l = c .before .before .loop in
+    let e = l .inv .3 .same-length in (
+      s .pre .0,
+      (s .pre .1 .0, (s .pre .1 .1 .0, (c .before .loop-test .taken, (l .inv .1, (l .inv .2, (s .pre .1 .1 .1 .0, omega arith)))))),
+    )
 
 row-after-requires : tie.Need-row-after-requires Inv-loop μ-loop
-row-after-requires c κs = let s = c .before .before .before .before .before .before .before .before .before in let l = c .before .before .before .before .before .loop in let t = c .before .before .before .before .loop-test .taken in (omega arith, (l .inv .1, (l .inv .2, rw (l .inv .2) (mod-lt (l .cell) (cols-positive (s .args .g) (l .cell) t)))))
+row-after-requires c κs =
+    let s = c .before .before .before .before .before .before .before .before .before in
+    let l = c .before .before .before .before .before .loop in
+    let t = c .before .before .before .before .loop-test .taken in
+    (omega arith, (l .inv .1, (l .inv .2, rw (l .inv .2) (mod-lt (l .cell) (cols-positive (s .args .g) (l .cell) t)))))
 
 col-after-requires : tie.Need-col-after-requires Inv-loop μ-loop
-col-after-requires c κs = let s = c .before .before .before .before .before .before .before .before .before .before in let l = c .before .before .before .before .before .before .loop in let t = c .before .before .before .before .before .loop-test .taken in (omega arith, (l .inv .2, rw (l .inv .2) (mod-lt (l .cell) (cols-positive (s .args .g) (l .cell) t))))
+col-after-requires c κs =
+    let b = c .before .before .before .before .before .before in
+    let s = b .before .before .before .before in
+    let l = b .loop in
+    let t = c .before .before .before .before .before .loop-test .taken in
+    (omega arith, (l .inv .2, rw (l .inv .2) (mod-lt (l .cell) (cols-positive (s .args .g) (l .cell) t))))
 
 add-cell : tie.Need-add-cell Inv-loop μ-loop
-add-cell c = let l = c .before .before .before .before .before .before .before .loop in let t = c .before .before .before .before .before .before .loop-test .taken in omega arith
+add-cell c =
+    let l = c .before .before .before .before .before .before .before .loop in
+    let t = c .before .before .before .before .before .before .loop-test .taken in
+    omega arith
 
 loop-less : tie.Need-loop-less Inv-loop μ-loop
 loop-less c = let t = c .before .before .before .before .before .before .loop-test .taken in omega arith
@@ -52,7 +77,8 @@ loop-again c =
       c .before .row-after .ensures,
       c .col-after .ensures,
       subst (λ (x : List ℕ). WrittenTo (s .args .g) (now (s .args .codes)) 0 (l .cell + 1) (now (s .args .tail)) x) (sym (w .ensures))
-          (written-more (s .args .g) (now (s .args .codes)) 0 (now (s .args .tail)) (l .cell) (l .cell) (l .tail) (l .inv .3) (omega arith) (let h = s .pre .1 .1 .1 .1 in omega arith)),
+          (written-more (s .args .g) (now (s .args .codes)) 0 (now (s .args .tail)) (l .cell) (l .cell) (l .tail) (l .inv .3) (omega arith)
+          (let h = s .pre .1 .1 .1 .1 in omega arith)),
     )
 
 same-length : tie.Need-same-length Inv-loop μ-loop

@@ -16,7 +16,8 @@ use Rattle.receivers.proofs.write_marks_of_copy.Statement.{statement}
 use Rattle.receivers.proofs.write_marks_of_copy.Tie as tie
 
 abbrev Inv-loop : tie.InvT-loop
-Inv-loop g table work₀ half cols n cell₀ row₀ col₀ work cell row col = (cell ≤ size g) × (row ≡ cell / g .cols) × (col ≡ cell % g .cols) × WrittenTo g (take (size g) work₀) half cell work₀ work
+Inv-loop g table work₀ half cols n cell₀ row₀ col₀ work cell row col =
+    (cell ≤ size g) × (row ≡ cell / g .cols) × (col ≡ cell % g .cols) × WrittenTo g (take (size g) work₀) half cell work₀ work
 
 abbrev μ-loop : tie.MeasureT-loop
 μ-loop g table work₀ half cols n cell₀ row₀ col₀ work cell row col = size g - cell
@@ -25,7 +26,13 @@ mul-n : tie.Need-mul-n Inv-loop μ-loop
 mul-n c = search needs
 
 loop-holds : tie.Need-loop-holds Inv-loop μ-loop
-loop-holds c = let s = c .before .before in (omega arith, omega (arith, div-le-self 0 (s .args .g .cols)), omega (arith, mod-le 0 (s .args .g .cols)), written-none (s .args .g) (take (size (s .args .g)) (now (s .args .work))) (s .args .half) (now (s .args .work)))
+loop-holds c =
+    let s = c .before .before in (
+      omega arith,
+      omega (arith, div-le-self 0 (s .args .g .cols)),
+      omega (arith, mod-le 0 (s .args .g .cols)),
+      written-none (s .args .g) (take (size (s .args .g)) (now (s .args .work))) (s .args .half) (now (s .args .work)),
+    )
 
 write-mark-of-copy-requires : tie.Need-write-mark-of-copy-requires Inv-loop μ-loop
 write-mark-of-copy-requires c κs =
@@ -34,17 +41,30 @@ write-mark-of-copy-requires c κs =
     let e = l .inv .3 .same-length in
     let h = s .pre .1 .0 in
     let k = s .pre .1 .1 .0 in
-    let f = same-front (s .args .g) (take (size (s .args .g)) (now (s .args .work))) (s .args .half) (l .cell) (size (s .args .g)) (now (s .args .work)) (l .work) (l .inv .3) h (omega arith) in
-    (s .pre .0, (h, (omega arith, (subst AllCodes (sym f) (s .pre .1 .1 .1 .0), (c .before .loop-test .taken, (l .inv .1, (l .inv .2, s .pre .1 .1 .1 .1)))))))
+    let f = same-front (s .args .g) (take (size (s .args .g)) (now (s .args .work))) (s .args .half) (l .cell) (size (s .args .g))
+    (now (s .args .work)) (l .work) (l .inv .3) h (omega arith) in
+    let q = subst AllCodes (sym f) (s .pre .1 .1 .1 .0) in
+    (s .pre .0, (h, (omega arith, (q, (c .before .loop-test .taken, (l .inv .1, (l .inv .2, s .pre .1 .1 .1 .1)))))))
 
 row-after-requires : tie.Need-row-after-requires Inv-loop μ-loop
-row-after-requires c κs = let s = c .before .before .before .before .before .before .before .before in let l = c .before .before .before .before .before .loop in let t = c .before .before .before .before .loop-test .taken in (omega arith, (l .inv .1, (l .inv .2, rw (l .inv .2) (mod-lt (l .cell) (cols-positive (s .args .g) (l .cell) t)))))
+row-after-requires c κs =
+    let s = c .before .before .before .before .before .before .before .before in
+    let l = c .before .before .before .before .before .loop in
+    let t = c .before .before .before .before .loop-test .taken in
+    (omega arith, (l .inv .1, (l .inv .2, rw (l .inv .2) (mod-lt (l .cell) (cols-positive (s .args .g) (l .cell) t)))))
 
 col-after-requires : tie.Need-col-after-requires Inv-loop μ-loop
-col-after-requires c κs = let s = c .before .before .before .before .before .before .before .before .before in let l = c .before .before .before .before .before .before .loop in let t = c .before .before .before .before .before .loop-test .taken in (omega arith, (l .inv .2, rw (l .inv .2) (mod-lt (l .cell) (cols-positive (s .args .g) (l .cell) t))))
+col-after-requires c κs =
+    let s = c .before .before .before .before .before .before .before .before .before in
+    let l = c .before .before .before .before .before .before .loop in
+    let t = c .before .before .before .before .before .loop-test .taken in
+    (omega arith, (l .inv .2, rw (l .inv .2) (mod-lt (l .cell) (cols-positive (s .args .g) (l .cell) t))))
 
 add-cell : tie.Need-add-cell Inv-loop μ-loop
-add-cell c = let l = c .before .before .before .before .before .before .before .loop in let t = c .before .before .before .before .before .before .loop-test .taken in omega arith
+add-cell c =
+    let l = c .before .before .before .before .before .before .before .loop in
+    let t = c .before .before .before .before .before .before .loop-test .taken in
+    omega arith
 
 loop-less : tie.Need-loop-less Inv-loop μ-loop
 loop-less c = let t = c .before .before .before .before .before .before .loop-test .taken in omega arith
@@ -57,13 +77,16 @@ loop-again c =
     let w = c .before .before .before .before .write-mark-of-copy in
     let h = s .pre .1 .0 in
     let k = s .pre .1 .1 .0 in
-    let f = same-front (s .args .g) (take (size (s .args .g)) (now (s .args .work))) (s .args .half) (l .cell) (size (s .args .g)) (now (s .args .work)) (l .work) (l .inv .3) h (omega arith) in (
+    let f = same-front (s .args .g) (take (size (s .args .g)) (now (s .args .work))) (s .args .half) (l .cell) (size (s .args .g))
+    (now (s .args .work)) (l .work) (l .inv .3) h (omega arith) in (
       omega arith,
       c .before .row-after .ensures,
       c .col-after .ensures,
-      subst (λ (x : List ℕ). WrittenTo (s .args .g) (take (size (s .args .g)) (now (s .args .work))) (s .args .half) (l .cell + 1) (now (s .args .work)) x)
+      subst (λ (x : List ℕ). WrittenTo (s .args .g) (take (size (s .args .g)) (now (s .args .work))) (s .args .half) (l .cell + 1)
+          (now (s .args .work)) x)
           (sym (w .ensures ∙ ap (λ (x : List ℕ). set (l .work) (s .args .half + l .cell) (receiverMark (s .args .g) x (l .cell))) f))
-          (written-more (s .args .g) (take (size (s .args .g)) (now (s .args .work))) (s .args .half) (now (s .args .work)) (l .cell) (s .args .half + l .cell) (l .work) (l .inv .3) refl (omega arith)),
+          (written-more (s .args .g) (take (size (s .args .g)) (now (s .args .work))) (s .args .half) (now (s .args .work)) (l .cell)
+          (s .args .half + l .cell) (l .work) (l .inv .3) refl (omega arith)),
     )
 
 same-length : tie.Need-same-length Inv-loop μ-loop
@@ -75,7 +98,8 @@ returns c =
     let l = c .before .loop in
     let h = l .inv .0 in
     let e : l .cell ≡ size (s .args .g) = omega arith in
-    subst (λ (i : ℕ). WrittenTo (s .args .g) (take (size (s .args .g)) (now (s .args .work))) (s .args .half) i (now (s .args .work)) (l .work)) e (l .inv .3)
+    subst (λ (i : ℕ). WrittenTo (s .args .g) (take (size (s .args .g)) (now (s .args .work))) (s .args .half) i (now (s .args .work))
+    (l .work)) e (l .inv .3)
 
 pub write-marks-of-copy-spec : {M : Type 1} → statement M
 write-marks-of-copy-spec =

@@ -13,19 +13,22 @@ returns : tie.Need-returns
 returns c =
     let a = c .before .before .before .before .before .before .before .args in
     let k = c .before .before .check in
-    refused-promise (a .g) (a .codes .now) (a .counts .now) (a .threshold) (a .starts .now) (a .work .now) (k .result) (k .ensures) (c .if1 .taken)
+    refused-promise (a .g) (a .codes .now) (a .counts .now) (a .threshold) (a .starts .now) (a .work .now) (k .result) (k .ensures)
+    (c .if1 .taken)
 
 first-bad-code-requires : tie.Need-first-bad-code-requires
 first-bad-code-requires c κs =
     let a = c .before .before .before .before .before .before .before .args in
     let k = c .before .before .check in
-    sizes (a .g) (a .codes .now) (a .counts .now) (a .threshold) (a .starts .now) (a .work .now) (k .result) (k .ensures) (c .if1 .left) .codes-long
+    sizes (a .g) (a .codes .now) (a .counts .now) (a .threshold) (a .starts .now) (a .work .now) (k .result) (k .ensures)
+    (c .if1 .left) .codes-long
 
 cast-t15 : tie.Need-cast-t15
 cast-t15 c =
     let a = c .before .before .before .before .before .before .before .before .before .args in
     let k = c .before .before .before .before .check in
-    let s = sizes (a .g) (a .codes .now) (a .counts .now) (a .threshold) (a .starts .now) (a .work .now) (k .result) (k .ensures) (c .before .before .if1 .left) in
+    let s = sizes (a .g) (a .codes .now) (a .counts .now) (a .threshold) (a .starts .now) (a .work .now) (k .result) (k .ensures)
+    (c .before .before .if1 .left) in
     let m = s .codes-long in
     let f = s .fits .cells in
     let h = c .if2 .taken in
@@ -36,7 +39,8 @@ returns-2 c =
     let a = c .before .before .before .before .before .before .before .before .before .args in
     let k = c .before .before .before .before .check in
     let b = c .before .first-bad-code in
-    bad-promise (a .g) (a .codes .now) (a .counts .now) (a .threshold) (a .starts .now) (a .work .now) (k .result) (k .ensures) (c .before .before .if1 .left) (b .result) (b .ensures) (c .if2 .taken)
+    bad-promise (a .g) (a .codes .now) (a .counts .now) (a .threshold) (a .starts .now) (a .work .now) (k .result) (k .ensures)
+    (c .before .before .if1 .left) (b .result) (b .ensures) (c .if2 .taken)
 
 mul-starts-into : tie.Need-mul-starts-into
 mul-starts-into c = search needs
@@ -55,8 +59,10 @@ starts-into-requires c κs =
     let a = c .before .before .before .before .before .before .before .before .before .before .before .args in
     let k = c .before .before .before .before .before .before .check in
     let b = c .before .before .before .first-bad-code in
-    let s = sizes (a .g) (a .codes .now) (a .counts .now) (a .threshold) (a .starts .now) (a .work .now) (k .result) (k .ensures) (c .before .before .before .before .if1 .left) in
-    let e = none-bad (a .g) (a .codes .now) (a .counts .now) (a .threshold) (a .starts .now) (a .work .now) (k .result) (k .ensures) (c .before .before .before .before .if1 .left) (b .result) (b .ensures) (c .before .before .if2 .left) in (
+    let s = sizes (a .g) (a .codes .now) (a .counts .now) (a .threshold) (a .starts .now) (a .work .now) (k .result) (k .ensures)
+    (c .before .before .before .before .if1 .left) in
+    let e = none-bad (a .g) (a .codes .now) (a .counts .now) (a .threshold) (a .starts .now) (a .work .now) (k .result) (k .ensures)
+    (c .before .before .before .before .if1 .left) (b .result) (b .ensures) (c .before .before .if2 .left) in (
       s .fits,
       (
         s .codes-long,
@@ -81,12 +87,16 @@ same-length-2 c = search needs
 
 returns-3 : tie.Need-returns-3
 returns-3 c =
-    let a = c .before .before .before .before .before .before .before .before .before .before .before .before .before .before .before .before .args in
-    let k = c .before .before .before .before .before .before .before .before .before .before .before .check in
-    let b = c .before .before .before .before .before .before .before .before .first-bad-code in
+    let d = c .before .before .before .before .before .before .before in
+    let m = d .before .before .before .before in
+    let a = m .before .before .before .before .before .args in
+    let k = m .check in
+    let b = d .before .first-bad-code in
     let z = c .before .before .before .before .starts-into in
-    let e = none-bad (a .g) (a .codes .now) (a .counts .now) (a .threshold) (a .starts .now) (a .work .now) (k .result) (k .ensures) (c .before .before .before .before .before .before .before .before .before .if1 .left) (b .result) (b .ensures) (c .before .before .before .before .before .before .before .if2 .left) in
-    started-promise (a .g) (a .codes .now) (a .counts .now) (a .threshold) (a .starts .now) (a .work .now) (k .result) (k .ensures) (c .before .before .before .before .before .before .before .before .before .if1 .left) e (z .last .1 .1 .1 .1 .0) _ (z .result) (z .ensures) (same-length-2 c)
+    let e = none-bad (a .g) (a .codes .now) (a .counts .now) (a .threshold) (a .starts .now) (a .work .now) (k .result) (k .ensures)
+    (d .before .before .if1 .left) (b .result) (b .ensures) (d .if2 .left) in
+    started-promise (a .g) (a .codes .now) (a .counts .now) (a .threshold) (a .starts .now) (a .work .now) (k .result) (k .ensures)
+    (d .before .before .if1 .left) e (z .last .1 .1 .1 .1 .0) _ (z .result) (z .ensures) (same-length-2 c)
 
 pub starts-spec : {M : Type 1} → statement M
 starts-spec =

@@ -45,7 +45,8 @@ returns c =
     let p = s .pre in
     let q = c .before .before .before .before .before .before .before .receivers-from in
     let u = c .before .before .before .count-routes in
-    endless-started (a .g) (a .codes .now) (a .tail .now) (q .last .1 .1 .0) (p .0) (p .1 .0) (p .1 .1 .1 .1 .0) (q .kept .1 .1 .0) (q .ensures)
+    endless-started (a .g) (a .codes .now) (a .tail .now) (q .last .1 .1 .0) (p .0) (p .1 .0) (p .1 .1 .1 .1 .0) (q .kept .1 .1 .0)
+    (q .ensures)
     (u .last .1 .0) (u .result) (u .ensures) (a .counts .now) (a .threshold) (a .starts .now) (c .if1 .taken)
 
 number-starts-requires : tie.Need-number-starts-requires
@@ -59,14 +60,17 @@ same-length-3 c = search needs
 
 returns-2 : tie.Need-returns-2
 returns-2 c =
-    let s = c .before .before .before .before .before .before .before .before .before .before .before .before .before .before .before .before .before .before .before in
+    let b = c .before .before .before .before .before .before .before .before .before .before .before .before in
+    let s = b .before .before .before .before .before .before .before in
     let a = s .args in
     let p = s .pre in
-    let q = c .before .before .before .before .before .before .before .before .before .before .before .before .receivers-from in
+    let q = b .receivers-from in
     let u = c .before .before .before .before .before .before .before .before .count-routes in
     let z = c .before .before .number-starts in
-    all-started (a .g) (a .codes .now) (a .tail .now) (q .last .1 .1 .0) (p .0) (p .1 .0) (p .1 .1 .1 .1 .0) (q .kept .1 .1 .0) (q .ensures)
-    (u .last .1 .0) (u .result) (u .ensures) (a .counts .now) (a .threshold) (a .starts .now) (c .before .before .before .before .before .if1 .left)
+    all-started (a .g) (a .codes .now) (a .tail .now) (q .last .1 .1 .0) (p .0) (p .1 .0) (p .1 .1 .1 .1 .0) (q .kept .1 .1 .0)
+    (q .ensures)
+    (u .last .1 .0) (u .result) (u .ensures) (a .counts .now) (a .threshold) (a .starts .now)
+    (c .before .before .before .before .before .if1 .left)
     (z .last .1 .1 .1 .1 .0) (z .result) (z .ensures .0) (z .ensures .1)
 
 pub starts-into-spec : {M : Type 1} → statement M

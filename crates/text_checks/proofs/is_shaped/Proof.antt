@@ -39,7 +39,9 @@ feeds-end-lines-requires : tie.Need-feeds-end-lines-requires
 feeds-end-lines-requires c κs = search needs
 
 returns-3 : tie.Need-returns-3
-returns-3 c = c .feeds-end-lines .ensures ∙ sym (right-length _ _ (c .before .before .header .ensures .grid) (c .before .before .before .if1 .left) (c .before .if2 .left))
+returns-3 c =
+    c .feeds-end-lines .ensures
+    ∙ sym (right-length _ _ (c .before .before .header .ensures .grid) (c .before .before .before .if1 .left) (c .before .if2 .left))
 
 pub is-shaped-spec : {M : Type 1} → statement M
 is-shaped-spec =

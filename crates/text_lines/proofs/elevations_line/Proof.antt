@@ -41,8 +41,11 @@ loop-less c = omega arith
 
 loop-again : tie.Need-loop-again Inv-loop μ-loop
 loop-again c =
-    let l = c .before .before .before .before .before .before .loop in
-    (omega arith, cells-more 4 _ _ _ _ _ (l .inv .1) (c .before .before .before .before .twos-at .ensures) (c .before .before .put-hex .ensures))
+    let l = c .before .before .before .before .before .before .loop in (
+      omega arith,
+      cells-more 4 _ _ _ _ _ (l .inv .1) (c .before .before .before .before .twos-at .ensures)
+          (c .before .before .put-hex .ensures),
+    )
 
 slice-write-out : tie.Need-slice-write-out Inv-loop μ-loop
 slice-write-out c = omega arith

@@ -67,7 +67,10 @@ returns c =
     record {
       width-of-text = length-hex (s .k) (s .v);
       next-place = refl;
-      stored = ap (λ (t : List ℕ). sets (l .out) (s .from) t) (sym (no-digit (l .rest))) ∙ ap (λ (n : ℕ). sets (l .out) (s .from) (hexText n (l .rest))) e ∙ l .inv .2;
+      stored =
+          ap (λ (t : List ℕ). sets (l .out) (s .from) t) (sym (no-digit (l .rest)))
+          ∙ ap (λ (n : ℕ). sets (l .out) (s .from) (hexText n (l .rest))) e
+          ∙ l .inv .2;
     }
 
 pub put-hex-spec : {M : Type 1} → statement M

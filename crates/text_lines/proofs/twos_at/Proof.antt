@@ -24,7 +24,8 @@ twos-requires c κs = search needs
 returns : tie.Need-returns
 returns c =
     let s = c .before .before .args in
-    let e : toZ w16 (ofZ w16 (getD (s .elevations .now) (s .c) (pos 0))) ≡ getD (s .elevations .now) (s .c) (pos 0) = toZ-ofZ (sfits-of (c .before .twos-arg .given)) in
+    let e : toZ w16 (ofZ w16 (getD (s .elevations .now) (s .c) (pos 0))) ≡ getD (s .elevations .now) (s .c) (pos 0) =
+    toZ-ofZ (sfits-of (c .before .twos-arg .given)) in
     c .twos .ensures ∙ ap toTwos (e ∙ at-any (s .elevations .now) (s .c) (pos 0) (omega arith))
 
 pub twos-at-spec : {M : Type 1} → statement M

@@ -51,7 +51,8 @@ loop-again c =
     let number = c .before .before .number .ensures in
     let elevation = c .before .elevation-of in (
       omega arith,
-      numbers-more _ _ _ _ (l .inv .1) (toZ-ofZ (sfits-of (elevation .ok)) ∙ elevation .ensures ∙ ap fromTwos (number .value)) (number .next),
+      numbers-more _ _ _ _ (l .inv .1) (toZ-ofZ (sfits-of (elevation .ok)) ∙ elevation .ensures ∙ ap fromTwos (number .value))
+          (number .next),
     )
 
 past-line-feed-requires : tie.Need-past-line-feed-requires Inv-loop μ-loop

@@ -29,7 +29,10 @@ cast-mark : tie.Need-cast-mark Inv-loop μ-loop
 cast-mark c = omega (arith, c .shared-slice-known .given (c .before .before .loop .cell))
 
 returns : tie.Need-returns Inv-loop μ-loop
-returns c = let s = c .before .before .before .before in let l = c .before .before .before .loop in stop-met (s .args .n) (now (s .args .tail)) (l .steps) (s .args .start) (l .cell) (l .inv .2) (l .inv .0) (c .if1 .taken)
+returns c =
+    let s = c .before .before .before .before in
+    let l = c .before .before .before .loop in
+    stop-met (s .args .n) (now (s .args .tail)) (l .steps) (s .args .start) (l .cell) (l .inv .2) (l .inv .0) (c .if1 .taken)
 
 add-result : tie.Need-add-result Inv-loop μ-loop
 add-result c = omega arith
@@ -38,7 +41,10 @@ add-result-2 : tie.Need-add-result-2 Inv-loop μ-loop
 add-result-2 c = omega arith
 
 returns-2 : tie.Need-returns-2 Inv-loop μ-loop
-returns-2 c = let s = c .before .before .before .before .before in let l = c .before .before .before .before .loop in stop-end (s .args .n) (now (s .args .tail)) (l .steps) (s .args .start) (l .cell) (l .inv .2) (l .inv .0) (c .if2 .taken)
+returns-2 c =
+    let s = c .before .before .before .before .before in
+    let l = c .before .before .before .before .loop in
+    stop-end (s .args .n) (now (s .args .tail)) (l .steps) (s .args .start) (l .cell) (l .inv .2) (l .inv .0) (c .if2 .taken)
 
 add-steps : tie.Need-add-steps Inv-loop μ-loop
 add-steps c = omega arith
@@ -57,7 +63,10 @@ loop-again c =
     below h f = omega arith
 
 returns-3 : tie.Need-returns-3 Inv-loop μ-loop
-returns-3 c = let s = c .before .before in let l = c .before .loop in stop-far (s .args .n) (now (s .args .tail)) (l .steps) (s .args .start) (l .cell) (l .inv .2) (l .inv .0) (c .loop-test .left)
+returns-3 c =
+    let s = c .before .before in
+    let l = c .before .loop in
+    stop-far (s .args .n) (now (s .args .tail)) (l .steps) (s .args .start) (l .cell) (l .inv .2) (l .inv .0) (c .loop-test .left)
 
 pub descend-spec : {M : Type 1} → statement M
 descend-spec =

@@ -35,7 +35,8 @@ returns : tie.Need-returns Inv-loop μ-loop
 returns c =
     let s = c .before .before .before .before in
     let l = c .before .before .before .loop in
-    settled-met (s .args .n) (s .args .start) (s .args .found) (now (s .args .tail)) (l .tail) (l .cell) (l .inv) (s .pre .1 .1 .0) (s .pre .1 .1 .1 .1) (s .pre .1 .1 .1 .0) (c .if1 .taken)
+    settled-met (s .args .n) (s .args .start) (s .args .found) (now (s .args .tail)) (l .tail) (l .cell) (l .inv) (s .pre .1 .1 .0)
+    (s .pre .1 .1 .1 .1) (s .pre .1 .1 .1 .0) (c .if1 .taken)
 
 mul-tail : tie.Need-mul-tail Inv-loop μ-loop
 mul-tail c = let t = c .before .before .loop-test .taken in omega arith
@@ -48,14 +49,16 @@ loop-less c =
     let s = c .before .before .before .before in
     let l = c .before .before .before .loop in
     let e = l .inv .same-length in
-    fewer-free (s .args .n) (s .args .found) (l .tail) (l .cell) (c .before .before .loop-test .taken) (omega arith) (c .if1 .left) (s .pre .1 .1 .1 .0)
+    fewer-free (s .args .n) (s .args .found) (l .tail) (l .cell) (c .before .before .loop-test .taken) (omega arith) (c .if1 .left)
+    (s .pre .1 .1 .1 .0)
 
 loop-again : tie.Need-loop-again Inv-loop μ-loop
 loop-again c =
     let s = c .before .before .before .before in
     let l = c .before .before .before .loop in
     let e = l .inv .same-length in
-    settling-more (s .args .n) (s .args .start) (s .args .found) (now (s .args .tail)) (l .tail) (l .cell) (l .inv) (s .pre .1 .1 .1 .0) (c .before .before .loop-test .taken) (omega arith) (c .if1 .left)
+    settling-more (s .args .n) (s .args .start) (s .args .found) (now (s .args .tail)) (l .tail) (l .cell) (l .inv) (s .pre .1 .1 .1 .0)
+    (c .before .before .loop-test .taken) (omega arith) (c .if1 .left)
 
 same-length-2 : tie.Need-same-length-2 Inv-loop μ-loop
 same-length-2 c = c .before .loop .inv .same-length
@@ -64,7 +67,8 @@ returns-2 : tie.Need-returns-2 Inv-loop μ-loop
 returns-2 c =
     let s = c .before .before in
     let l = c .before .loop in
-    settled-off (s .args .n) (s .args .start) (s .args .found) (now (s .args .tail)) (l .tail) (l .cell) (l .inv) (s .pre .1 .1 .0) (s .pre .1 .1 .1 .1) (s .pre .1 .1 .1 .0) (c .loop-test .left)
+    settled-off (s .args .n) (s .args .start) (s .args .found) (now (s .args .tail)) (l .tail) (l .cell) (l .inv) (s .pre .1 .1 .0)
+    (s .pre .1 .1 .1 .1) (s .pre .1 .1 .1 .0) (c .loop-test .left)
 
 pub settle-spec : {M : Type 1} → statement M
 settle-spec =

@@ -28,15 +28,19 @@ walk-from-requires c κs =
     (s .pre .0, (omega arith, c .before .loop-test .taken))
 
 same-length : tie.Need-same-length Inv-loop μ-loop
-same-length c = let w = c .before .before .before .walk-from in w .kept .1 .0 ∙ c .before .before .before .before .before .before .loop .inv .1 .same-length
+same-length c =
+    let w = c .before .before .before .walk-from in
+    w .kept .1 .0 ∙ c .before .before .before .before .before .before .loop .inv .1 .same-length
 
 returns : tie.Need-returns Inv-loop μ-loop
 returns c =
     let k = c .before .before .before .before .before .before in
     let s = k .before .before in
     let w = c .before .before .before .walk-from in
-    walked-endless (s .args .n) (now (s .args .tail)) (s .pre .1 .1) (s .pre .1 .0) (k .loop .start) (k .loop .tail) (k .loop .inv .1) (c .before .before .before .before .before .loop-test .taken) (w .last .1 .0)
-    (subst (λ (b : Bool). Stepped (s .args .n) (k .loop .start) (k .loop .tail) (w .last .1 .0) b) (not-true (w .result) (c .if1 .taken)) (w .ensures))
+    walked-endless (s .args .n) (now (s .args .tail)) (s .pre .1 .1) (s .pre .1 .0) (k .loop .start) (k .loop .tail) (k .loop .inv .1)
+    (c .before .before .before .before .before .loop-test .taken) (w .last .1 .0)
+    (subst (λ (b : Bool). Stepped (s .args .n) (k .loop .start) (k .loop .tail) (w .last .1 .0) b) (not-true (w .result) (c .if1 .taken))
+    (w .ensures))
 
 add-start : tie.Need-add-start Inv-loop μ-loop
 add-start c = let t = c .before .before .before .before .before .loop-test .taken in omega arith
@@ -51,8 +55,10 @@ loop-again c =
     let w = c .before .before .before .walk-from in
     let t = c .before .before .before .before .before .loop-test .taken in (
       omega arith,
-      stepped (s .args .n) (now (s .args .tail)) (s .pre .1 .1) (s .pre .1 .0) (k .loop .start) (k .loop .tail) (k .loop .inv .1) t (w .last .1 .0)
-          (subst (λ (b : Bool). Stepped (s .args .n) (k .loop .start) (k .loop .tail) (w .last .1 .0) b) (not-false (w .result) (c .if1 .left)) (w .ensures)),
+      stepped (s .args .n) (now (s .args .tail)) (s .pre .1 .1) (s .pre .1 .0) (k .loop .start) (k .loop .tail) (k .loop .inv .1) t
+          (w .last .1 .0)
+          (subst (λ (b : Bool). Stepped (s .args .n) (k .loop .start) (k .loop .tail) (w .last .1 .0) b)
+          (not-false (w .result) (c .if1 .left)) (w .ensures)),
     )
 
 same-length-2 : tie.Need-same-length-2 Inv-loop μ-loop
@@ -65,7 +71,8 @@ returns-2 c =
     let h = k .loop .inv .0 in
     let e : k .loop .start ≡ s .args .n = le-antisymm h (c .loop-test .left) in
     subst (λ (m : ℕ). Walked (s .args .n) (now (s .args .tail)) (k .loop .tail) m) (sym e)
-    (walked-all (s .args .n) (now (s .args .tail)) (s .pre .1 .1) (s .pre .1 .0) (k .loop .tail) (subst (λ (m : ℕ). WalkedTo (s .args .n) m (now (s .args .tail)) (k .loop .tail)) e (k .loop .inv .1)))
+    (walked-all (s .args .n) (now (s .args .tail)) (s .pre .1 .1) (s .pre .1 .0) (k .loop .tail)
+    (subst (λ (m : ℕ). WalkedTo (s .args .n) m (now (s .args .tail)) (k .loop .tail)) e (k .loop .inv .1)))
 
 pub walk-spec : {M : Type 1} → statement M
 walk-spec =

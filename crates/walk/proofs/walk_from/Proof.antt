@@ -30,21 +30,27 @@ same-length c = search needs
 
 returns-2 : tie.Need-returns-2
 returns-2 c =
-    let s = c .before .before .before .before .before .before in
-    (refl, c .before .before .before .if1 .left, subst (λ (v : ℕ). Descent (s .args .n) (now (s .args .tail)) (s .args .start) v) (c .if2 .taken) (c .before .descend .ensures))
+    let s = c .before .before .before .before .before .before in (
+      refl,
+      c .before .before .before .if1 .left,
+      subst (λ (v : ℕ). Descent (s .args .n) (now (s .args .tail)) (s .args .start) v)
+          (c .if2 .taken) (c .before .descend .ensures),
+    )
 
 cast-settle : tie.Need-cast-settle
 cast-settle c =
     let s = c .before .before .before .before .before .before .before in
     let k = c .before .before .before .before .before .before .slice-known in
-    let h = found-small (s .args .n) (2 ^ 32) (now (s .args .tail)) (s .args .start) (c .before .before .descend .result) (c .before .before .descend .ensures) (λ i. omega (arith, k .given i)) (omega arith) in
+    let h = found-small (s .args .n) (2 ^ 32) (now (s .args .tail)) (s .args .start) (c .before .before .descend .result)
+    (c .before .before .descend .ensures) (λ i. omega (arith, k .given i)) (omega arith) in
     omega arith
 
 settle-requires : tie.Need-settle-requires
 settle-requires c κs =
     let s = c .before .before .before .before .before .before .before in
     let f = c .before .if2 .left in
-    let h = found-above (s .args .n) (now (s .args .tail)) (s .args .start) (c .before .before .descend .result) (c .before .before .descend .ensures) (above f) in
+    let h = found-above (s .args .n) (now (s .args .tail)) (s .args .start) (c .before .before .descend .result)
+    (c .before .before .descend .ensures) (above f) in
     (s .pre .0, (s .pre .1 .0, (s .pre .1 .1, (h, c .before .before .before .before .if1 .left))))
   where
     above : {m : ℕ} → (m ≡ 0 → ⊥) → 0 < m
@@ -56,7 +62,10 @@ same-length-2 c = search needs
 returns-3 : tie.Need-returns-3
 returns-3 c =
     let k = c .before .before .before .before in
-    inr (k .before .before .before .if1 .left, (k .before .descend .result, above (k .if2 .left), k .before .descend .ensures, c .before .before .settle .ensures))
+    inr (
+      k .before .before .before .if1 .left,
+      (k .before .descend .result, above (k .if2 .left), k .before .descend .ensures, c .before .before .settle .ensures),
+    )
   where
     above : {m : ℕ} → (m ≡ 0 → ⊥) → 0 < m
     above f = omega arith

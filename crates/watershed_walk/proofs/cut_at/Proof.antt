@@ -16,7 +16,8 @@ shared-slice-read-if1 : tie.Need-shared-slice-read-if1
 shared-slice-read-if1 c = search needs
 
 returns : tie.Need-returns
-returns c = let s = c .before .before in cut-none (s .args .n) (now (s .args .starts)) (now (s .args .tail)) (s .args .cell) (c .if1 .taken)
+returns c =
+    let s = c .before .before in cut-none (s .args .n) (now (s .args .starts)) (now (s .args .tail)) (s .args .cell) (c .if1 .taken)
 
 cast-tail : tie.Need-cast-tail
 cast-tail c = search needs
@@ -31,7 +32,8 @@ same-length : tie.Need-same-length
 same-length c = search needs
 
 returns-2 : tie.Need-returns-2
-returns-2 c = let s = c .before .before in cut-one (s .args .n) (now (s .args .starts)) (now (s .args .tail)) (s .args .cell) (c .if1 .left)
+returns-2 c =
+    let s = c .before .before in cut-one (s .args .n) (now (s .args .starts)) (now (s .args .tail)) (s .args .cell) (c .if1 .left)
 
 pub cut-at-spec : {M : Type 1} → statement M
 cut-at-spec =

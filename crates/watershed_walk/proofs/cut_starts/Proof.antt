@@ -20,7 +20,10 @@ loop-holds : tie.Need-loop-holds Inv-loop μ-loop
 loop-holds c = let s = c .before .before in (omega arith, cut-to-none (s .args .n) (now (s .args .starts)) (now (s .args .tail)))
 
 cut-at-requires : tie.Need-cut-at-requires Inv-loop μ-loop
-cut-at-requires c κs = let s = c .before .before .before .before .before in let e = c .before .before .loop .inv .1 .same-length in (s .pre .0, (s .pre .1 .0, (omega arith, c .before .loop-test .taken)))
+cut-at-requires c κs =
+    let s = c .before .before .before .before .before in
+    let e = c .before .before .loop .inv .1 .same-length in
+    (s .pre .0, (s .pre .1 .0, (omega arith, c .before .loop-test .taken)))
 
 add-cell : tie.Need-add-cell Inv-loop μ-loop
 add-cell c = let t = c .before .before .before .before .loop-test .taken in omega arith
@@ -35,7 +38,8 @@ loop-again c =
     let t = c .before .before .before .before .loop-test .taken in
     let h = s .pre .1 .1 in (
       omega arith,
-      subst (λ (x : List ℕ). CutTo (s .args .n) (now (s .args .starts)) (l .cell + 1) (now (s .args .tail)) x) (sym (c .before .before .cut-at .ensures))
+      subst (λ (x : List ℕ). CutTo (s .args .n) (now (s .args .starts)) (l .cell + 1) (now (s .args .tail)) x)
+          (sym (c .before .before .cut-at .ensures))
           (cut-to-more (s .args .n) (now (s .args .starts)) (now (s .args .tail)) (l .cell) (l .tail) (l .inv .1) (omega arith)),
     )
 
@@ -48,7 +52,8 @@ returns c =
     let l = c .before .loop in
     let h = l .inv .0 in
     let e : l .cell ≡ s .args .n = omega arith in
-    cut-all (s .args .n) (now (s .args .starts)) (now (s .args .tail)) (l .tail) (s .pre .1 .1) (subst (λ (i : ℕ). CutTo (s .args .n) (now (s .args .starts)) i (now (s .args .tail)) (l .tail)) e (l .inv .1))
+    cut-all (s .args .n) (now (s .args .starts)) (now (s .args .tail)) (l .tail) (s .pre .1 .1)
+    (subst (λ (i : ℕ). CutTo (s .args .n) (now (s .args .starts)) i (now (s .args .tail)) (l .tail)) e (l .inv .1))
 
 pub cut-starts-spec : {M : Type 1} → statement M
 cut-starts-spec =

@@ -26,10 +26,20 @@ shared-slice-read-is-stray : tie.Need-shared-slice-read-is-stray Inv-loop μ-loo
 shared-slice-read-is-stray c = omega arith
 
 mul-is-stray : tie.Need-mul-is-stray Inv-loop μ-loop
-mul-is-stray c = let s = c .before .before .before .before .before in let a = s .pre .0 in let b = s .pre .1 in let t = c .before .loop-test .taken in omega arith
+mul-is-stray c =
+    let s = c .before .before .before .before .before in
+    let a = s .pre .0 in
+    let b = s .pre .1 in
+    let t = c .before .loop-test .taken in
+    omega arith
 
 shared-slice-read-is-stray-2 : tie.Need-shared-slice-read-is-stray-2 Inv-loop μ-loop
-shared-slice-read-is-stray-2 c = let s = c .before .before .before .before .before .before in let a = s .pre .0 in let b = s .pre .1 in let t = c .before .before .loop-test .taken in omega arith
+shared-slice-read-is-stray-2 c =
+    let s = c .before .before .before .before .before .before in
+    let a = s .pre .0 in
+    let b = s .pre .1 in
+    let t = c .before .before .loop-test .taken in
+    omega arith
 
 is-stray-requires : tie.Need-is-stray-requires Inv-loop μ-loop
 is-stray-requires c κs = search needs
@@ -48,7 +58,10 @@ loop-less : tie.Need-loop-less Inv-loop μ-loop
 loop-less c = let t = c .before .before .before .before .loop-test .taken in omega arith
 
 loop-again : tie.Need-loop-again Inv-loop μ-loop
-loop-again c = let l = c .before .before .before .before .before .loop in let t = c .before .before .before .before .loop-test .taken in (omega arith, below-more _ (l .c) (l .inv .1) (sym (c .before .is-stray .ensures) ∙ c .if1 .left))
+loop-again c =
+    let l = c .before .before .before .before .before .loop in
+    let t = c .before .before .before .before .loop-test .taken in
+    (omega arith, below-more _ (l .c) (l .inv .1) (sym (c .before .is-stray .ensures) ∙ c .if1 .left))
 
 returns-2 : tie.Need-returns-2 Inv-loop μ-loop
 returns-2 c =

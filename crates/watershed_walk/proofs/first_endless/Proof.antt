@@ -21,7 +21,9 @@ walk-requires c κs =
     let s = c .before .before .before .before .before .before .before .before in
     let v = c .before .before .before .receivers-from in
     let f = s .pre .0 .cells in
-    (omega arith, (let k = v .kept .1 .1 .0 in let h = s .pre .1 .1 .0 in omega arith, marks (s .args .g) (now (s .args .codes)) (drop (size (s .args .g)) (now (s .args .tail))) (v .last .1 .1 .0) (s .pre .1 .0) (v .ensures)))
+    let q = marks (s .args .g) (now (s .args .codes)) (drop (size (s .args .g)) (now (s .args .tail))) (v .last .1 .1 .0) (s .pre .1 .0)
+    (v .ensures) in
+    (omega arith, (let k = v .kept .1 .1 .0 in let h = s .pre .1 .1 .0 in omega arith, q))
 
 same-length : tie.Need-same-length
 same-length c = search needs
@@ -31,7 +33,9 @@ returns c =
     let s = c .before .before .before .before .before .before .before .before .before .before .before in
     let v = c .before .before .before .before .before .before .receivers-from in
     let w = c .before .before .walk in
-    w .ensures .first ∙ first-endless (s .args .g) (now (s .args .codes)) (drop (size (s .args .g)) (now (s .args .tail))) (v .last .1 .1 .0) (s .pre .1 .0) (v .ensures)
+    w .ensures .first
+    ∙ first-endless (s .args .g) (now (s .args .codes)) (drop (size (s .args .g)) (now (s .args .tail))) (v .last .1 .1 .0) (s .pre .1 .0)
+    (v .ensures)
 
 pub first-endless-spec : {M : Type 1} → statement M
 first-endless-spec =

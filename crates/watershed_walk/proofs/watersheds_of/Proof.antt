@@ -20,7 +20,14 @@ same-length : tie.Need-same-length
 same-length c = search needs
 
 returns : tie.Need-returns
-returns c = let s = c .before .before .before .before .before .before .before .before .before .before in let r = c .before .before .before .before .routes-check in (r .ensures, sym (cond-false (watersheds (s .args .g) (now (s .args .codes)) (now (s .args .starts))) (now (s .args .watersheds)) (ne-eqb (r .result .number) 0 (c .if1 .taken))))
+returns c =
+    let b = c .before .before .before .before in
+    let s = b .before .before .before .before .before .before in
+    let r = b .routes-check in (
+      r .ensures,
+      sym (cond-false (watersheds (s .args .g) (now (s .args .codes)) (now (s .args .starts))) (now (s .args .watersheds))
+          (ne-eqb (r .result .number) 0 (c .if1 .taken))),
+    )
 
 watersheds-in-requires : tie.Need-watersheds-in-requires
 watersheds-in-requires c κs =
@@ -28,7 +35,13 @@ watersheds-in-requires c κs =
     let r = c .before .before .before .before .before .before .routes-check in
     let y = all-yes (s .args .g) (now (s .args .codes)) (now (s .args .starts)) (r .result) (r .ensures) (c .before .before .if1 .left) in
     let p = s .pre .1 .1 .1 in
-    (s .pre .0, (s .pre .1 .0, (s .pre .1 .1 .0, (p .0, (let k = r .kept .1 .1 .1 .0 in let h = p .1 in omega arith, (all-codes (s .args .g) (now (s .args .codes)) (s .pre .1 .0) (y .no-bad), (y .no-endless, y .no-stray)))))))
+    let q = all-codes (s .args .g) (now (s .args .codes)) (s .pre .1 .0) (y .no-bad) in (
+      s .pre .0,
+      (
+        s .pre .1 .0,
+        (s .pre .1 .1 .0, (p .0, (let k = r .kept .1 .1 .1 .0 in let h = p .1 in omega arith, (q, (y .no-endless, y .no-stray))))),
+      ),
+    )
 
 same-length-2 : tie.Need-same-length-2
 same-length-2 c = search needs
@@ -38,9 +51,14 @@ same-length-3 c = search needs
 
 returns-2 : tie.Need-returns-2
 returns-2 c =
-    let s = c .before .before .before .before .before .before .before .before .before .before .before .before .before .before .before .before .before in
-    let r = c .before .before .before .before .before .before .before .before .before .before .before .routes-check in
-    (r .ensures, c .before .before .before .before .watersheds-in .ensures ∙ sym (cond-true (watersheds (s .args .g) (now (s .args .codes)) (now (s .args .starts))) (now (s .args .watersheds)) (eq-eqb (r .result .number) 0 (c .before .before .before .before .before .before .before .if1 .left))))
+    let b = c .before .before .before .before .before .before .before .before .before .before .before in
+    let s = b .before .before .before .before .before .before in
+    let r = b .routes-check in (
+      r .ensures,
+      c .before .before .before .before .watersheds-in .ensures
+          ∙ sym (cond-true (watersheds (s .args .g) (now (s .args .codes)) (now (s .args .starts))) (now (s .args .watersheds))
+          (eq-eqb (r .result .number) 0 (c .before .before .before .before .before .before .before .if1 .left))),
+    )
 
 pub watersheds-of-spec : {M : Type 1} → statement M
 watersheds-of-spec =
