@@ -70,26 +70,10 @@ spread-inner-requires c κs =
     let s = c .before .before .before .before .before in
     let a = s .args in
     let p = s .pre in
-    let i = c .before .before .is-inner .ensures (c .before .if1 .taken) in (
-      p .0,
-      (
-        p .1 .0,
-        (
-          p .1 .1 .0,
-          (
-            p .1 .1 .1 .0,
-            (
-              p .1 .1 .1 .1 .0,
-              (
-                spread-start (a .g) (a .half) (a .k) (a .v) (a .head) (a .len) _ (a .work .now) (s .pre .1 .1 .1 .1 .1 .1 .0)
-                    (s .pre .1 .1 .1 .1 .1 .0),
-                (i, p .1 .1 .1 .1 .1 .1 .1),
-              ),
-            ),
-          ),
-        ),
-      ),
-    )
+    let i = c .before .before .is-inner .ensures (c .before .if1 .taken) in
+    let d = spread-start (a .g) (a .half) (a .k) (a .v) (a .head) (a .len) _ (a .work .now) (p .1 .1 .1 .1 .1 .1 .0)
+    (p .1 .1 .1 .1 .1 .0) in
+    (p .0, (p .1 .0, (p .1 .1 .0, (p .1 .1 .1 .0, (p .1 .1 .1 .1 .0, (d, (i, p .1 .1 .1 .1 .1 .1 .1)))))))
 
 same-length : tie.Need-same-length
 same-length c = search needs
@@ -101,24 +85,11 @@ spread-border-requires : tie.Need-spread-border-requires
 spread-border-requires c κs =
     let s = c .before .before .before .before .before in
     let a = s .args in
-    let p = s .pre in (
-      p .0,
-      (
-        p .1 .1 .0,
-        (
-          p .1 .1 .1 .0,
-          (
-            p .1 .1 .1 .1 .0,
-            (
-              spread-start (a .g) (a .half) (a .k) (a .v) (a .head) (a .len) _ (a .work .now) (s .pre .1 .1 .1 .1 .1 .1 .0)
-                  (s .pre .1 .1 .1 .1 .1 .0),
-              first-on (a .g) (a .half) (a .k) (a .v) (a .head) (a .len) _ (a .work .now) (s .pre .1 .1 .1 .1 .1 .1 .0)
-                  (s .pre .1 .1 .1 .1 .1 .0),
-            ),
-          ),
-        ),
-      ),
-    )
+    let p = s .pre in
+    let d = spread-start (a .g) (a .half) (a .k) (a .v) (a .head) (a .len) _ (a .work .now) (p .1 .1 .1 .1 .1 .1 .0)
+    (p .1 .1 .1 .1 .1 .0) in
+    let h = first-on (a .g) (a .half) (a .k) (a .v) (a .head) (a .len) _ (a .work .now) (p .1 .1 .1 .1 .1 .1 .0) (p .1 .1 .1 .1 .1 .0) in
+    (p .0, (p .1 .1 .0, (p .1 .1 .1 .0, (p .1 .1 .1 .1 .0, (d, h)))))
 
 same-length-2 : tie.Need-same-length-2
 same-length-2 c = search needs
