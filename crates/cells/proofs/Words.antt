@@ -12,15 +12,9 @@ use mir.Syntax.{w16, w32}
 use mir.Val.{SFits, toZ, ofZ}
 use mir.Facts.{sfits-widen, toZ-ofZ, toZ-pos}
 use Rattle.grid.specs.Sheet.{void, top}
+use Rattle.grid_laws.proofs.Widths.{widened}
 use Rattle.cells.specs.Keys.{keyOf, levelOf}
 use Rattle.cells.proofs.Keys.{level-low, level-high}
-
-module _ (e : ℤ) (h : SFits w16 e) where
-  pub wide : SFits w32 (toZ w16 (ofZ w16 e))
-  wide = subst (SFits w32) (sym (toZ-ofZ h)) (sfits-widen tt h)
-
-  widened : toZ w32 (ofZ w32 (toZ w16 (ofZ w16 e))) ≡ e
-  widened = ap (λ (y : ℤ). toZ w32 (ofZ w32 y)) (toZ-ofZ h) ∙ toZ-ofZ {w = w32} (sfits-widen tt h)
 
 plus : (e : ℤ) → mag e < 32768 → e +ℤ pos 32768 ≡ pos (keyOf e)
 unfolding keyOf

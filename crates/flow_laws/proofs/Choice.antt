@@ -13,10 +13,6 @@ use Rattle.grid_laws.proofs.Tests.{or-cases, and-left, and-right, not-is-false}
 use Rattle.grid_laws.proofs.Below.{some-of-any, no-of-any, part-≤-sum}
 use Rattle.grid_laws.proofs.Neighbours.{at-eight}
 
-pub position-of-code : (p : ℕ) → p < 8 → positionOf (codeAt p) ≡ p
-unfolding positionOf firstBelow
-position-of-code = at-eight (λ p. positionOf (codeAt p) ≡ p) refl refl refl refl refl refl refl refl
-
 -- the sum of the codes of the positions that pass a test
 abbrev pub codeSum : (ℕ → Bool) → ℕ
 codeSum t = sumBelow 8 (λ p. cond (t p) (codeAt p) 0)

@@ -22,14 +22,14 @@ use Rattle.grid_laws.proofs.Tests.{cond-false, not-is-true}
 use Rattle.grid_laws.proofs.Below.{at-table, length-table, first-found, first-≤, first-all}
 use Rattle.grid_laws.proofs.Order.{<ℤ→≤ℤ, ≤ℤ-of-eq}
 use Rattle.grid_laws.proofs.Cells.{on-sheet}
-use Rattle.grid_laws.proofs.Neighbours.{at-eight}
-use Rattle.grid_laws.proofs.Outlets.{leaves-no-data, outlet-leaves, outlet-data}
+use Rattle.grid_laws.proofs.Neighbours.{at-eight, position-of-code}
+use Rattle.grid_laws.proofs.Outlets.{leaves-no-data, outlet-leaves, outlet-data, order-small}
 use Rattle.flow_laws.specs.Levels.{Levels}
 use Rattle.flow_laws.specs.Leads.{LeadsDown, LeadsOut}
 use Rattle.flow_laws.proofs.Agree.{certified-directions, equal-data, zero-data}
 use Rattle.flow_laws.proofs.Equals.{equal-height}
 use Rattle.flow_laws.proofs.Steepest.{some-steepest, steepest-lower}
-use Rattle.flow_laws.proofs.Choice.{position-of-code, chosen}
+use Rattle.flow_laws.proofs.Choice.{chosen}
 
 -- ---- the code of a cell, by what the cell is
 module _ (g : Grid) (e : List ℤ) (l : List ℕ) (c : ℕ) where
@@ -68,11 +68,6 @@ module _ (g : Grid) (e : List ℤ) (l : List ℕ) (c : ℕ) where
       (and-true (and-true y (eq-eqb (suc (getD l (neighbour g c q) 0)) (getD l c 0) s)) (lt-ltb 0 (getD l (neighbour g c q) 0) t))
 
 -- ---- an outlet's code
-order-small : (i : ℕ) → i < 8 → getD outletOrder i 0 < 8
-order-small =
-    at-eight (λ i. getD outletOrder i 0 < 8) (omega arith) (omega arith) (omega arith) (omega arith) (omega arith) (omega arith)
-    (omega arith) (omega arith)
-
 -- each position has its place in the order
 order-of : (p : ℕ) → p < 8 → (i : ℕ) × (i < 8) × (getD outletOrder i 0 ≡ p)
 order-of =

@@ -14,6 +14,7 @@ use borrow.Author.Tests.{lt-ltb, le-ltb, ltb-true}
 use Rattle.grid.specs.declared.Grid.{Grid}
 use Rattle.grid.specs.Sheet.{at, isData, neighbour}
 use Rattle.grid.specs.Directions.{drop, squaredDistance, beats, beaten, isSteepest, hasDescent}
+use Rattle.grid_laws.proofs.Distances.{distance-positive}
 use Rattle.grid_laws.proofs.Tests.{test, true-T, T-true, true-false, and-true, and-left, and-right, not-of-false, not-true-false}
 use Rattle.grid_laws.proofs.Below.{any-of, some-of-any, none-of}
 use Rattle.flow_laws.proofs.Search.{last?}
@@ -73,14 +74,6 @@ module _ (g : Grid) (e : List ℤ) (c : ℕ) where
       (and-left (isData e (neighbour g c p)) _ l, drop-lower p (and-right (isData e (neighbour g c p)) _ l))
 
 -- ---- the order of weighted drops
-pub distance-positive : (g : Grid) (p : ℕ) → 0 < squaredDistance g p
-unfolding squaredDistance
-distance-positive g p = go (eqb (p % 2) 0)
-  where
-    go : (t : Bool) → 0 < cond t 2 1
-    go true = omega arith
-    go false = omega arith
-
 weigh : (x y z P K Q : ℕ) → 0 < P → 0 < Q → x * K < y * P → y * Q < z * K → x * Q < z * P
 weigh x y z P K Q hP hQ a b =
     let i : x * K * Q < y * P * Q = mul-lt-mul-of-pos-right a hQ in

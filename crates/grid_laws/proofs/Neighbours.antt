@@ -14,7 +14,8 @@ use lib.ListN.{getD}
 use lib.IntN.{ℤ, pos, negsuc}
 use borrow.Author.Tests.{lt-ltb, le-ltb}
 use Rattle.grid.specs.declared.Grid.{Grid}
-use Rattle.grid.specs.Sheet.{size, steps, moved, cellAt, neighbour, Touch}
+use Rattle.grid.specs.Below.{firstBelow}
+use Rattle.grid.specs.Sheet.{size, codeAt, positionOf, steps, moved, cellAt, neighbour, Touch}
 use Rattle.grid_laws.proofs.Tests.{and-true, and-false-left, and-false-right, cond-true, cond-false}
 
 abbrev pub down : ℕ → ℕ
@@ -50,6 +51,11 @@ step-row = at-eight (λ p. (getD steps p (pos 0, pos 0)) .0 ≡ shift (down p)) 
 step-col : (p : ℕ) → p < 8 → (getD steps p (pos 0, pos 0)) .1 ≡ shift (right p)
 unfolding shift
 step-col = at-eight (λ p. (getD steps p (pos 0, pos 0)) .1 ≡ shift (right p)) refl refl refl refl refl refl refl refl
+
+-- a code's position
+pub position-of-code : (p : ℕ) → p < 8 → positionOf (codeAt p) ≡ p
+unfolding positionOf firstBelow
+position-of-code = at-eight (λ p. positionOf (codeAt p) ≡ p) refl refl refl refl refl refl refl refl
 
 pub down-small : (p : ℕ) → p < 8 → down p < 3
 down-small =

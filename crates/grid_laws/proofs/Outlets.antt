@@ -7,19 +7,19 @@ use Prim.Native.Nat.{ℕ, _+_, _-_, _*_, _/_, _%_, _≤_, _<_}
 use native.Mathlib.Nat.{div-lt-iff-lt-mul, mod-lt}
 use native.Mathlib.Decide.{ℕ-discrete}
 use native.Mathlib.Omega.{arith}
-use lib.Dec.{T, eqb}
-use lib.ListN.{length}
+use lib.Dec.{T, eqb, lit<}
+use lib.ListN.{length, getD}
 use lib.IntN.{ℤ}
 use borrow.Author.Tests.{eq-eqb, ne-eqb}
 use Rattle.grid.specs.declared.Grid.{Grid}
 use Rattle.grid.specs.Below.{anyBelow}
 use Rattle.grid.specs.Sheet.{size, isData, neighbour}
-use Rattle.grid.specs.Outlet.{leavesAt, isOutlet}
+use Rattle.grid.specs.Outlet.{leavesAt, isOutlet, outletOrder}
 use Rattle.grid_laws.proofs.Tests.{test, and-true, and-left, and-right, and-rest-false, or-left, or-right, or-false, not-of-true}
 use Rattle.grid_laws.proofs.Tests.{not-of-false, not-is-true}
 use Rattle.grid_laws.proofs.Below.{any-of, some-of-any, no-of-any, any-ext}
 use Rattle.grid_laws.proofs.Cells.{off-no-data}
-use Rattle.grid_laws.proofs.Neighbours.{Stays, down, right, stays-or-off, neighbour-off, neighbour-on, cols-positive}
+use Rattle.grid_laws.proofs.Neighbours.{at-eight, Stays, down, right, stays-or-off, neighbour-off, neighbour-on, cols-positive}
 
 -- a step leaves exactly where the sheet reads no data, since what is off the sheet reads as void
 pub leaves-no-data : (g : Grid) (e : List ℤ) → length e ≡ size g → (c p : ℕ) → leavesAt g e c p ≡ not (isData e (neighbour g c p))
@@ -64,6 +64,10 @@ same-outlets g e f l m h c =
     ap₂ _&&_ (h c)
     (any-ext 8 (leavesAt g e c) (leavesAt g f c)
     (λ p k. leaves-no-data g e l c p ∙ ap not (h (neighbour g c p)) ∙ sym (leaves-no-data g f m c p)))
+
+-- the order of an outlet's codes has positions alone
+pub order-small : (i : ℕ) → i < 8 → getD outletOrder i 0 < 8
+order-small = at-eight (λ i. getD outletOrder i 0 < 8) (lit< tt) (lit< tt) (lit< tt) (lit< tt) (lit< tt) (lit< tt) (lit< tt) (lit< tt)
 
 -- ---- the words of document 01: "on the sheet's border or beside a void"
 

@@ -18,11 +18,11 @@ use Rattle.grid.specs.Sheet.{codeAt}
 use Rattle.grid.specs.Directions.{squaredDistance}
 use Rattle.grid_laws.proofs.Tests.{test, true-false, and-true, and-left, and-right, or-left, or-right, or-cases}
 use Rattle.grid_laws.proofs.Tests.{not-of-false, not-is-true, cond-true, cond-false, same-test}
+use Rattle.grid_laws.proofs.Distances.{distance-positive}
 use Rattle.grid_laws.proofs.Neighbours.{at-eight}
 use Rattle.grid_laws.proofs.Below.{any-of, some-of-any, no-of-any, none-of}
 use Rattle.slopes.specs.Steepest.{squareAt, unbeaten, steepestIn, anyVoid, markedIn, lowerOf, lowestOf, membersOf}
 use Rattle.slopes.specs.Steepest.{lowSide, lowCorner, sideCodes, cornerCodes, leadsOf, largerOf}
-use Rattle.slopes.proofs.Largest.{apart}
 
 -- ---- the lowest of four
 pub lower-first : (a b : ℕ) → b < a → b ≡ lowerOf a b
@@ -252,7 +252,7 @@ module _ (g : Grid) (own : ℕ) (l : List ℕ) where
             (λ h. true-false h refl) (λ h. refl) (λ h. true-false h refl) (λ h. refl) (λ h. true-false h refl) (λ h. refl);
         has = ⊎-elim (⊎-elim (λ q. (1, lit< tt, refl, sym q)) (λ q. (3, lit< tt, refl, sym q)))
             (⊎-elim (λ q. (5, lit< tt, refl, sym q)) (λ q. (7, lit< tt, refl, sym q))) (side-low .one);
-        apart = apart g 1;
+        apart = distance-positive g 1;
       }
 
   corners : Class g l isSide false (lowCorner l) (squaredDistance g 0)
@@ -267,7 +267,7 @@ module _ (g : Grid) (own : ℕ) (l : List ℕ) where
             (λ h. true-false refl h) (λ h. refl) (λ h. true-false refl h) (λ h. refl) (λ h. true-false refl h);
         has = ⊎-elim (⊎-elim (λ q. (0, lit< tt, refl, sym q)) (λ q. (2, lit< tt, refl, sym q)))
             (⊎-elim (λ q. (4, lit< tt, refl, sym q)) (λ q. (6, lit< tt, refl, sym q))) (corner-low .one);
-        apart = apart g 0;
+        apart = distance-positive g 0;
       }
 
   abbrev sidesLead : Bool

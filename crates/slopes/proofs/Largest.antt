@@ -1,10 +1,8 @@
 -- Squared distances, and squares times distances.
 use mathlib.Core.Path.{_≡_, sym}
-use mathlib.Core.Bool.{Bool, true, false, cond}
-use Prim.Native.Nat.{ℕ, _*_, _%_, _≤_, _<_}
+use Prim.Native.Nat.{ℕ, _*_, _%_, _≤_}
 use native.Mathlib.Nat.{mul-le-mul}
 use native.Mathlib.Omega.{arith}
-use lib.Dec.{eqb}
 use borrow.Author.Tests.{eq-eqb, ne-eqb}
 use Rattle.grid.specs.declared.Grid.{Grid}
 use Rattle.grid.specs.Directions.{squaredDistance}
@@ -17,14 +15,6 @@ corner g p h = sym (cond-true 2 1 (eq-eqb (p % 2) 0 h))
 pub side : (g : Grid) (p : ℕ) → (p % 2 ≡ 0 → ⊥) → 1 ≡ squaredDistance g p
 unfolding squaredDistance
 side g p h = sym (cond-false 2 1 (ne-eqb (p % 2) 0 h))
-
-pub apart : (g : Grid) (p : ℕ) → 0 < squaredDistance g p
-unfolding squaredDistance
-apart g p = go (eqb (p % 2) 0)
-  where
-    go : (t : Bool) → 0 < cond t 2 1
-    go true = omega arith
-    go false = omega arith
 
 pub square-small : (a : ℕ) → a ≤ 65535 → a * a ≤ 4294836225
 square-small a h = mul-le-mul {n₁ = a} {m₁ = a} {n₂ = 65535} {m₂ = 65535} h h

@@ -14,6 +14,7 @@ use mir.Val.{Fits, SFits, toZ, ofZ}
 use mir.Facts.{sfits-widen, toZ-ofZ, toZ-pos}
 use Rattle.grid.specs.Sheet.{void, at}
 use Rattle.grid.specs.Frames.{fromTwos, toTwos}
+use Rattle.grid_laws.proofs.Widths.{widened}
 
 -- ---- printing: an elevation plus 65,536, and what that leaves when divided by 65,536
 
@@ -37,17 +38,11 @@ remainder (pos n) h = omega arith
 remainder (negsuc n) h = omega arith
 
 module _ (e : ℤ) (h : SFits w16 e) where
-  pub wide : SFits w32 (toZ w16 (ofZ w16 e))
-  wide = subst (SFits w32) (sym (toZ-ofZ h)) (sfits-widen tt h)
-
-  widened : toZ w32 (ofZ w32 (toZ w16 (ofZ w16 e))) ≡ e
-  widened = ap (λ (y : ℤ). toZ w32 (ofZ w32 y)) (toZ-ofZ h) ∙ toZ-ofZ {w = w32} (sfits-widen tt h)
-
   pub sum-fits : SFits w32 (toZ w32 (ofZ w32 (toZ w16 (ofZ w16 e))) +ℤ pos 65536)
-  sum-fits = rw widened (rw (plus e (h .sfits)) record { sfits = omega (arith, lifted-small e (h .sfits)) })
+  sum-fits = rw (widened e h) (rw (plus e (h .sfits)) record { sfits = omega (arith, lifted-small e (h .sfits)) })
 
   pub sum-is : toZ w32 (ofZ w32 (toZ w32 (ofZ w32 (toZ w16 (ofZ w16 e))) +ℤ pos 65536)) ≡ pos (lifted e)
-  sum-is = toZ-ofZ {w = w32} sum-fits ∙ ap (λ (y : ℤ). y +ℤ pos 65536) widened ∙ plus e (h .sfits)
+  sum-is = toZ-ofZ {w = w32} sum-fits ∙ ap (λ (y : ℤ). y +ℤ pos 65536) (widened e h) ∙ plus e (h .sfits)
 
   pub sum-unsigned : Fits w32 (lifted e)
   sum-unsigned = record { fits = omega (arith, lifted-small e (h .sfits)) }

@@ -1,5 +1,6 @@
 -- `text_lines::twos`: the elevation plus 65,536, and what that leaves when divided by 65,536.
-use Rattle.text_laws.proofs.Words.{wide, sum-fits, sum-is, sum-unsigned, twos-is}
+use Rattle.grid_laws.proofs.Widths.{wide}
+use Rattle.text_laws.proofs.Words.{sum-fits, sum-is, sum-unsigned, twos-is}
 use Rattle.text_lines.proofs.twos.Statement.{statement}
 use Rattle.text_lines.proofs.twos.Tie as tie
 
