@@ -1,7 +1,8 @@
 // Every call of libtervuola.a against the second program, on its sheets, on random codes and on wrong lengths.
 //   compare ROUNDS [SEED]      sheets up to 40 by 40
 //   compare big KIND SIDE      one large sheet, by the second program's fast layer
-// A result buffer is lent with guard elements on both sides, and holds a pattern before the call; a no must leave it, and the work buffer up to question 9.
+// A result buffer is lent with guard elements on both sides, and holds a pattern before the call; a no must leave it, and the work buffer
+// up to question 9.
 #include "../../include/tervuola.h"
 #include "../second/gen.hpp"
 #include <cstring>
@@ -113,7 +114,8 @@ static void watersheds_round(const Desc &d, const V<u8> &c0, gen::Rng &g, Length
   Lent<u32> out(len.of(c0.size())), work(len.work(c0.size()));
   V<u32> want = out.list();
   Reply r = call_watersheds(d.rows, d.cols, c, s, want, work.n);
-  tervuola_answer a = tervuola_watersheds((u32)d.rows, (u32)d.cols, c.data(), c.size(), s.data(), s.size(), out.at(), out.n, work.at(), work.n);
+  tervuola_answer a = tervuola_watersheds((u32)d.rows, (u32)d.cols, c.data(), c.size(), s.data(), s.size(),
+                                          out.at(), out.n, work.at(), work.n);
   same_answer("watersheds", a.number, a.place, r, round);
   same_list("watersheds", "the watersheds", out, want, round);
   same_work("watersheds", a.number, work, round);
@@ -129,7 +131,8 @@ static void starts_round(const Desc &d, const V<u8> &c0, gen::Rng &g, Lengths le
   Lent<u32> out(len.of(c0.size())), work(len.work(c0.size()));
   V<u32> want = out.list();
   Reply r = call_table5(d.rows, d.cols, c, n, t, want, work.n);
-  tervuola_counted a = tervuola_starts((u32)d.rows, (u32)d.cols, c.data(), c.size(), n.data(), n.size(), t, out.at(), out.n, work.at(), work.n);
+  tervuola_counted a = tervuola_starts((u32)d.rows, (u32)d.cols, c.data(), c.size(), n.data(), n.size(), t,
+                                       out.at(), out.n, work.at(), work.n);
   same_answer("starts", a.number, a.place, r, round);
   if (a.count != r.count)
     fail("starts", "the number of starts", round);
@@ -152,7 +155,8 @@ static void pour_points_round(const Desc &d, const V<i16> &e0, gen::Rng &g, Leng
   V<u32> wa = a.list(), wb = b.list(), wc = c.list();
   V<i16> wz = z.list();
   Reply r = call_table6(d.rows, d.cols, e, l, wa, wb, wz, wc);
-  tervuola_counted x = tervuola_pour_points((u32)d.rows, (u32)d.cols, e.data(), e.size(), l.data(), l.size(), a.at(), a.n, b.at(), b.n, z.at(), z.n, c.at(), c.n);
+  tervuola_counted x = tervuola_pour_points((u32)d.rows, (u32)d.cols, e.data(), e.size(), l.data(), l.size(),
+                                            a.at(), a.n, b.at(), b.n, z.at(), z.n, c.at(), c.n);
   same_answer("pour_points", x.number, x.place, r, round);
   if (x.count != r.count)
     fail("pour_points", "the number of pairs", round);
@@ -174,7 +178,8 @@ static void drain_round(const Desc &d, const V<i16> &e0, Lengths len, u64 round)
   want.counts = n.list();
   want.labels = l.list();
   Reply r = call_four(d, e, want, work.n);
-  tervuola_answer a = tervuola_drain((u32)d.rows, (u32)d.cols, e.data(), e.size(), f.at(), f.n, k.at(), k.n, n.at(), n.n, l.at(), l.n, work.at(), work.n);
+  tervuola_answer a = tervuola_drain((u32)d.rows, (u32)d.cols, e.data(), e.size(), f.at(), f.n, k.at(), k.n,
+                                     n.at(), n.n, l.at(), l.n, work.at(), work.n);
   same_answer("drain", a.number, a.place, r, round);
   same_list("drain", "the filled sheet", f, want.filled, round);
   same_list("drain", "the codes", k, want.codes, round);

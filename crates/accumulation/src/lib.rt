@@ -6,7 +6,7 @@
 // are not.
 ghost use mathlib.Core.Path.{_≡_};
 ghost use Prim.Native.Nat.{ℕ, _+_, _<_, _≤_};
-ghost use lib.ListN.{length, getD, take};
+ghost use lib.ListN.{take};
 ghost use Rattle.count_laws.specs.Passing.{FewDonors, DonorsTo};
 ghost use Rattle.route_laws.specs.Receivers.{Marks};
 ghost use Rattle.accumulation.specs.Tail.{markAt, wordAt, Roomy, Kept, donorAdded, passed, onward, Ready, Between, Down};

@@ -1,18 +1,18 @@
 -- How an answer to the first questions goes on: what is asked later, and the sizes after a yes.
-use mathlib.Core.Path.{_≡_, refl, sym, _∙_, ap, ap₂, subst}
-use mathlib.Core.Bool.{Bool, true, false, not, cond, _&&_}
+use mathlib.Core.Path.{_≡_, refl, sym, _∙_, ap, ap₂}
+use mathlib.Core.Bool.{Bool, true, false, not, _&&_}
 use mathlib.Core.Logic.{_⊎_, inl, inr, ⊎-elim}
 use mathlib.Core.List.{List, [], _∷_}
-use Prim.Native.Nat.{ℕ, _+_, _*_, _≤_, _<_}
+use Prim.Native.Nat.{ℕ, _*_, _≤_, _<_}
 use native.Mathlib.Nat.{mul-le-mul}
 use native.Mathlib.Omega.{arith}
 use lib.Dec.{eqb, leb}
-use borrow.Author.Tests.{leb-true, le-leb, lt-leb, eqb-true, eq-eqb, ne-eqb}
+use borrow.Author.Tests.{leb-true, le-leb, lt-leb, eqb-true}
 use Rattle.grid.specs.declared.Grid.{Grid}
 use Rattle.grid.specs.declared.Answer.{Answer}
 use Rattle.grid.specs.Sheet.{size}
-use Rattle.grid.specs.Checks.{refusal, accepted, isAccepted, ask, inRange, askSize, allHave, askSheets, askWork}
-use Rattle.grid_laws.proofs.Tests.{test, true-false, cond-true, cond-false, and-true, and-left, and-right, not-is-true, not-is-false}
+use Rattle.grid.specs.Checks.{refusal, accepted, ask, inRange, askSize, allHave, askSheets, askWork}
+use Rattle.grid_laws.proofs.Tests.{test, cond-true, cond-false, and-left, and-right, not-is-true, not-is-false}
 use Rattle.checks.specs.Sizes.{Fits}
 
 -- what `if !test()` says of what the test answers

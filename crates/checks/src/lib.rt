@@ -5,7 +5,7 @@ use grid::Answer;
 use grid::Grid;
 ghost use mathlib.Core.Path.{_≡_};
 ghost use mathlib.Core.List.{[], _∷_};
-ghost use Prim.Native.Nat.{_+_, _*_, _<_, _≤_};
+ghost use Prim.Native.Nat.{_*_, _<_};
 ghost use Rattle.grid.specs.Checks.{accepted, inRange, allHave, askSheets, askWork};
 
 // "from 1 to 4,000", in questions 5 and 6, which the reader asks too.

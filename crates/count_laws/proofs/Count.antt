@@ -1,7 +1,7 @@
 -- A cell's count is the sum over the cells that flow into it of 1 and their counts, and only that is: where every route ends. A route that
 -- holds c, but not as its first cell, holds exactly one cell that flows into c; so two sums change places.
 use mathlib.Core.Path.{_≡_, refl, sym, _∙_, ap}
-use mathlib.Core.Logic.{_⊎_, ⊎-elim}
+use mathlib.Core.Logic.{⊎-elim}
 use mathlib.Core.Bool.{Bool, true, false, not, cond, _&&_, _||_}
 use Prim.Native.Nat.{ℕ, zero, suc, _+_, _<_}
 use native.Mathlib.Omega.{arith}

@@ -1,7 +1,7 @@
 -- What the pass keeps. A cell with nothing awaited is closed, and its count and 1 handed to the cell that it flows into, if there is one:
 -- the count so far stays the sum over the donors that are done, and what is still to be handed on does not grow.
 use mathlib.Core.Path.{_≡_, refl, sym, _∙_, ap}
-use mathlib.Core.Logic.{_⊎_, ⊎-elim}
+use mathlib.Core.Logic.{⊎-elim}
 use mathlib.Core.Bool.{Bool, true, false, not, cond, _&&_}
 use Prim.Native.Nat.{ℕ, _+_, _-_, _≤_, _<_}
 use native.Mathlib.Omega.{arith}

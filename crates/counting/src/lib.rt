@@ -3,7 +3,7 @@
 // makes first, stands here too. `proofs/Sheet` carries marks, counts and the first endless cell over to a sheet of codes.
 ghost use mathlib.Core.Path.{_≡_};
 ghost use Prim.Native.Nat.{ℕ, _+_, _<_, _≤_};
-ghost use lib.ListN.{length, getD, take};
+ghost use lib.ListN.{length, take};
 ghost use Rattle.grid.specs.Below.{table};
 ghost use Rattle.route_laws.specs.Receivers.{Marks};
 ghost use Rattle.count_laws.specs.Passing.{tally, FewDonors};

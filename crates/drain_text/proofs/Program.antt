@@ -1,9 +1,9 @@
 -- The steps of the program, one after the other: what was read is what the definitions say, the one call accepts it, and what is printed
 -- is the definition's text.
 use mathlib.Core.Path.{_≡_, refl, sym, ap, _∙_}
-use mathlib.Core.Bool.{Bool, true, false, cond, _&&_}
-use mathlib.Core.List.{List, [], _∷_, _++_}
-use Prim.Native.Nat.{ℕ, suc, _+_, _*_, _≤_, _<_}
+use mathlib.Core.Bool.{Bool, true, false, _&&_}
+use mathlib.Core.List.{List}
+use Prim.Native.Nat.{ℕ, suc, _*_, _≤_}
 use native.Mathlib.Nat.{mul-le-mul-left}
 use native.Mathlib.Omega.{arith}
 use lib.Dec.{leb, eqb}
@@ -15,7 +15,7 @@ use Rattle.grid.specs.declared.Grid.{Grid}
 use Rattle.grid.specs.declared.Answer.{Answer}
 use Rattle.grid.specs.declared.Dimensions.{Dimensions}
 use Rattle.grid.specs.Sheet.{gridOf, size}
-use Rattle.grid.specs.Checks.{refusal, accepted, isAccepted, ask, inRange, askSize, allHave, askSheets, askWork, drainCheck}
+use Rattle.grid.specs.Checks.{refusal, accepted, ask, inRange, askSize, allHave, askSheets, askWork, drainCheck}
 use Rattle.grid.specs.Frames.{textGrid, isShaped, firstBadByte, readCheck, textSheet, resultText, refusalText, drainText, programText}
 use Rattle.grid.specs.Promises.{ReadPromise, DrainPromise}
 use Rattle.grid_laws.proofs.Below.{length-table}

@@ -1,10 +1,8 @@
 // The program as one call from text to text: what `drain` reads to what it prints. The text is read into a local sheet; a no is printed as
 // its line, and an accepted sheet is drained into local sheets, which are printed as frames. Each step's promise is an equation on lists,
 // and one after the other they are the definition `programText`.
-ghost use mathlib.Core.Path.{_≡_};
 ghost use Prim.Native.Nat.{_≤_};
 ghost use lib.ListN.{length};
-ghost use Rattle.grid.specs.Sheet.{size};
 ghost use Rattle.grid.specs.Frames.{drainText, programText};
 ghost use Rattle.frames.specs.Printed.{Printed};
 ghost use Rattle.drain_text.specs.Room.{Small, Lent};

@@ -1,10 +1,9 @@
 -- The promise of the one call, from the answer to questions 5 to 9 and the four lists of the inner part.
-use mathlib.Core.Path.{_≡_, refl, sym, _∙_, ap, subst}
-use mathlib.Core.Bool.{Bool, true, false, cond}
+use mathlib.Core.Path.{_≡_, refl, sym, _∙_, ap}
+use mathlib.Core.Bool.{true, false}
 use mathlib.Core.List.{List, [], _∷_}
-use Prim.Native.Nat.{ℕ, _+_, _*_, _≤_, _<_}
+use Prim.Native.Nat.{ℕ}
 use native.Mathlib.Omega.{arith}
-use lib.Dec.{T, eqb}
 use lib.ListN.{length}
 use lib.IntN.{ℤ}
 use borrow.Author.Tests.{eq-eqb, ne-eqb}
@@ -14,11 +13,11 @@ use Rattle.grid.specs.Sheet.{size}
 use Rattle.grid.specs.Fill as F
 use Rattle.grid.specs.Directions as D
 use Rattle.grid.specs.Routes as R
-use Rattle.grid.specs.Checks.{accepted, isAccepted, allHave, askSheets, askWork, drainCheck}
+use Rattle.grid.specs.Checks.{accepted, isAccepted, askSheets, askWork, drainCheck}
 use Rattle.grid.specs.Guarantee.{Guarantee}
-use Rattle.grid.specs.Promises.{resultOf, WorkBuffer, DrainPromise}
+use Rattle.grid.specs.Promises.{DrainPromise}
 use Rattle.grid_laws.proofs.Tests.{T-true, true-false, cond-true, cond-false}
-use Rattle.checks.proofs.Asked.{Passed, Refused, passed, refused, have-first, have-rest, four-results}
+use Rattle.checks.proofs.Asked.{passed, have-first, have-rest, four-results}
 use Rattle.guarantee_laws.proofs.OneCall.{guaranteed}
 use Rattle.drainage.specs.Results.{Measured, Results}
 

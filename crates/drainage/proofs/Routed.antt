@@ -1,16 +1,14 @@
 -- Counts and labels from one list of receivers: the receivers stand at the front of the tail until the labels take their place.
 -- t₀ is the tail at entry, t₁ after the receivers, t₂ after the counts.
-use mathlib.Core.Path.{_≡_, refl, sym, _∙_, ap}
-use mathlib.Core.Bool.{Bool, true, false, cond}
+use mathlib.Core.Path.{_≡_, sym, _∙_, ap}
 use mathlib.Core.List.{List, _++_}
-use Prim.Native.Nat.{ℕ, _+_, _≤_, _<_}
+use Prim.Native.Nat.{ℕ, _≤_, _<_}
 use native.Mathlib.Omega.{arith}
-use lib.Dec.{eqb}
 use lib.ListN.{length, take, drop, take-append-drop}
 use borrow.Author.Tests.{eq-eqb}
 use Rattle.grid.specs.declared.Grid.{Grid}
 use Rattle.grid.specs.Sheet.{size}
-use Rattle.grid.specs.Routes.{counts, labels, firstEndless}
+use Rattle.grid.specs.Routes.{counts, labels}
 use Rattle.grid_laws.proofs.Tests.{cond-true}
 use Rattle.route_laws.specs.Receivers.{receivers, Marks}
 use Rattle.count_laws.specs.Passing.{FewDonors}

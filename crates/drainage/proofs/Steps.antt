@@ -1,6 +1,6 @@
 -- From step to step of the one call: the filled sheet has every level, so its directions are written; their codes are all of the eight or
 -- 0, and their routes end.
-use mathlib.Core.Path.{_≡_, refl, sym, _∙_, ap, subst}
+use mathlib.Core.Path.{_≡_, sym, _∙_, ap, subst}
 use mathlib.Core.Bool.{cond}
 use mathlib.Core.List.{List}
 use Prim.Native.Nat.{ℕ, _+_, _-_, _*_, _/_, _≤_}

@@ -1,6 +1,6 @@
 -- What a yes to questions 5 to 9 says of the buffers of the one call, and the four lists that its inner part leaves.
 use mathlib.Core.Path.{_≡_}
-use mathlib.Core.List.{List, []}
+use mathlib.Core.List.{List}
 use Prim.Native.Nat.{ℕ, _+_, _*_, _≤_}
 use lib.ListN.{length}
 use lib.IntN.{ℤ}

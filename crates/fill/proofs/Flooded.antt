@@ -1,22 +1,21 @@
 -- What the flood leaves is the filled sheet: the data cells, neighbours and outlets that it sees by keys are those of the elevations, so
 -- its state at the end is the certificate of fill_laws.
-use mathlib.Core.Path.{_≡_, refl, sym, _∙_, ap, subst}
-use mathlib.Core.Bool.{Bool, true, false, not}
+use mathlib.Core.Path.{_≡_, sym, _∙_, ap, subst}
+use mathlib.Core.Bool.{true, false}
 use mathlib.Core.Logic.{_⊎_, inl, inr, ⊎-elim}
 use mathlib.Core.List.{List}
-use Prim.Native.Nat.{ℕ, _+_, _*_, _≤_, _<_}
+use Prim.Native.Nat.{ℕ, _+_, _≤_, _<_}
 use native.Mathlib.Omega.{arith}
 use native.Mathlib.Decide.{decLt}
 use lib.ListN.{length, getD}
 use lib.IntN.{ℤ}
-use lib.Dec.{T, ltb}
 use lib.Signed.{_≤ℤ_}
 use borrow.Author.Tests.{lt-ltb, ltb-true}
 use Rattle.grid.specs.declared.Grid.{Grid}
-use Rattle.grid.specs.Sheet.{size, void, higher, at, isData, DataCell, neighbour}
+use Rattle.grid.specs.Sheet.{size, higher, at, isData, DataCell, neighbour}
 use Rattle.grid.specs.Outlet.{isOutlet, leavesAt, Outlet}
 use Rattle.grid.specs.Fill.{filled}
-use Rattle.grid_laws.proofs.Tests.{test, T-true, true-T, true-false, not-true-false, not-of-false, not-is-true}
+use Rattle.grid_laws.proofs.Tests.{T-true, true-T, true-false, not-true-false, not-of-false, not-is-true}
 use Rattle.grid_laws.proofs.Order.{≤ℤ-trans, ≤ℤ-of-eq, ≤-higher-left, ≤-higher-right}
 use Rattle.grid_laws.proofs.Cells.{InRange, on-sheet}
 use Rattle.grid_laws.proofs.Outlets.{leaves-no-data, outlet-data, outlet-leaves, leaves-outlet}
@@ -27,7 +26,7 @@ use Rattle.flood_laws.specs.Flood.{CellOf, NextTo, OutletOf, Between}
 use Rattle.flood_laws.proofs.Steps.{next-back}
 use Rattle.flood_laws.proofs.Marks.{at-most}
 use Rattle.fill_laws.specs.Filling.{Way, stop, step}
-use Rattle.fill_laws.specs.Certificate.{DataNeighbours, Certificate, FillCertificate}
+use Rattle.fill_laws.specs.Certificate.{DataNeighbours, Certificate}
 use Rattle.fill_laws.proofs.Left.{some-way}
 use Rattle.fill_laws.proofs.Certified.{certificate-filled}
 

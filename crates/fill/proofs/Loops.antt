@@ -1,8 +1,8 @@
 -- What the loops of the fill have done.
-use mathlib.Core.Path.{_≡_, refl, sym, _∙_, ap, subst}
+use mathlib.Core.Path.{_≡_, _∙_}
 use mathlib.Core.Logic.{_⊎_, inl, inr, ⊎-elim}
-use mathlib.Core.List.{List, [], _∷_}
-use Prim.Native.Nat.{ℕ, zero, suc, _+_, _≤_, _<_}
+use mathlib.Core.List.{List}
+use Prim.Native.Nat.{ℕ, _+_, _≤_, _<_}
 use native.Mathlib.Omega.{arith}
 use native.Mathlib.Decide.{ℕ-discrete, decLt}
 use lib.ListN.{length, getD, set, List·getD-eq-default}
@@ -11,7 +11,7 @@ use lib.IntN.{ℤ}
 use lib.Signed.{_≤ℤ_}
 use Rattle.grid.specs.Sheet.{void, top, at}
 use Rattle.grid_laws.proofs.Cells.{InRange}
-use Rattle.cells.specs.Keys.{keyOf, levelOf}
+use Rattle.cells.specs.Keys.{keyOf}
 use Rattle.cells.proofs.Keys.{least, void-top}
 
 -- what a store leaves at each index

@@ -12,9 +12,9 @@ use Rattle.grid.specs.declared.Answer.{Answer}
 use Rattle.grid.specs.Sheet.{size}
 use Rattle.grid.specs.Fill.{filled}
 use Rattle.grid.specs.Checks.{accepted, askSheets, askWork, fillCheck}
-use Rattle.grid.specs.Promises.{FillPromise, WorkBuffer}
+use Rattle.grid.specs.Promises.{FillPromise}
 use Rattle.grid_laws.proofs.Tests.{cond-true, cond-false}
-use Rattle.checks.proofs.Asked.{Passed, passed, have-first, one-input}
+use Rattle.checks.proofs.Asked.{passed, have-first, one-input}
 
 module _ (g : Grid) (e f₀ : List ℤ) (w₀ : List ℕ) (r : Answer)
     (asked : r ≡ askSheets g (length e ∷ length e ∷ []) (length f₀ ∷ length f₀ ∷ length f₀ ∷ length f₀ ∷ [])

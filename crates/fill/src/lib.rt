@@ -6,11 +6,9 @@
 use grid::Answer;
 use grid::Grid;
 ghost use mathlib.Core.Path.{_≡_};
-ghost use Prim.Native.Nat.{ℕ, _+_, _*_, _/_, _<_, _≤_, _^_};
+ghost use Prim.Native.Nat.{ℕ, _*_, _/_, _<_, _≤_, _^_};
 ghost use lib.ListN.{length, getD};
-ghost use lib.IntN.{ℤ};
-ghost use lib.Signed.{_≤ℤ_};
-ghost use Rattle.grid.specs.Sheet.{size, void, top, at};
+ghost use Rattle.grid.specs.Sheet.{size, at};
 ghost use Rattle.grid.specs.Fill.{filled as filled'};
 ghost use Rattle.grid.specs.Promises.{FillPromise};
 ghost use Rattle.cells.specs.Keys.{keyOf, levelOf};

@@ -1,19 +1,18 @@
 -- The packed work buffer: what is read of it, and what comes back.
-use mathlib.Core.Path.{_≡_, refl, sym, _∙_, ap, subst}
-use mathlib.Core.Bool.{Bool, true, false, true≢false}
+use mathlib.Core.Path.{_≡_, sym, _∙_}
+use mathlib.Core.Bool.{true, false, true≢false}
 use mathlib.Core.Logic.{_⊎_, inl, inr, ⊎-elim}
 use mathlib.Core.List.{List}
-use Prim.Native.Nat.{ℕ, _+_, _-_, _*_, _/_, _%_, _≤_, _<_}
+use Prim.Native.Nat.{ℕ, _+_, _*_, _/_, _%_, _≤_, _<_}
 use native.Mathlib.Omega.{arith}
-use lib.ListN.{length, getD, set, length-set, length-take, length-drop}
-use borrow.Rule.Slice.PartMut.{putMid, midOf, set-mid-at}
+use lib.ListN.{length, getD, set}
 use Rattle.grid.specs.declared.Grid.{Grid}
 use Rattle.grid.specs.Sheet.{size, neighbour}
-use Rattle.grid_laws.proofs.Neighbours.{down, right, inner-neighbour}
+use Rattle.grid_laws.proofs.Neighbours.{inner-neighbour}
 use Rattle.cells.specs.Steps.{Inner}
 use Rattle.flood.specs.Distances.{Distances}
 use Rattle.key_sort.specs.Order.{Sorted}
-use Rattle.flood_laws.specs.Flood.{CellOf, Wanted, Touched, Room, Opens, Opening, During, Spread, Between}
+use Rattle.flood_laws.specs.Flood.{CellOf, Wanted, Touched, Opens, Opening, During, Spread, Between}
 use Rattle.flood_laws.specs.Packed.{frontOf, backOf}
 use Rattle.flood_laws.proofs.Steps.{spread-none, during-first, during-most, skip-void, skip-reached, skip-closed, between-room}
 use Rattle.flood_laws.proofs.Steps.{reach-first, drained}

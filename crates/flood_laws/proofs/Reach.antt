@@ -1,12 +1,12 @@
 -- What reaching a cell makes of the flood's state, with no geometry.
-use mathlib.Core.Path.{_≡_, refl, sym, _∙_, ap, subst}
+use mathlib.Core.Path.{_≡_, sym, _∙_, ap, subst}
 use mathlib.Core.Logic.{_⊎_, inl, inr, ⊎-elim}
-use Prim.Native.Nat.{ℕ, zero, suc, _+_, _≤_, _<_}
+use Prim.Native.Nat.{ℕ, _+_, _≤_, _<_}
 use native.Mathlib.Omega.{arith}
 use borrow.Author.Count.{below-more}
 use native.Mathlib.Decide.{ℕ-discrete, decLt}
-use Rattle.flood_laws.specs.Flood.{marked, Flood}
-use Rattle.flood_laws.proofs.Marks.{at-most, room, more-marks}
+use Rattle.flood_laws.specs.Flood.{Flood}
+use Rattle.flood_laws.proofs.Marks.{more-marks}
 
 module _ {size : ℕ} {Cell Out : ℕ → Type 0} {Next : ℕ → ℕ → Type 0} {Later : ℕ → Type 0} {key queue level : ℕ → ℕ} {v head len : ℕ}
     (on : (c : ℕ) → Cell c → c < size)

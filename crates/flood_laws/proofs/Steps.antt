@@ -2,7 +2,7 @@
 use mathlib.Core.Path.{_≡_, refl, sym, _∙_, ap, subst}
 use mathlib.Core.Logic.{_⊎_, inl, inr, ⊎-elim}
 use mathlib.Core.List.{List}
-use Prim.Native.Nat.{ℕ, zero, suc, _+_, _-_, _*_, _/_, _%_, _≤_, _<_}
+use Prim.Native.Nat.{ℕ, _+_, _≤_, _<_}
 use native.Mathlib.Omega.{arith}
 use borrow.Author.Count.{below-more}
 use native.Mathlib.Decide.{ℕ-discrete, decLt}
@@ -12,7 +12,7 @@ use Rattle.grid.specs.declared.Grid.{Grid}
 use Rattle.grid.specs.Sheet.{size, neighbour, Touch}
 use Rattle.grid_laws.proofs.Neighbours.{touch-back}
 use Rattle.key_sort.specs.Order.{Ahead, Sorted}
-use Rattle.flood_laws.specs.Flood.{marked, Flood, CellOf, NextTo, OutletOf, FloodOf, Between, During, Spread, Settled, Wanted}
+use Rattle.flood_laws.specs.Flood.{CellOf, NextTo, OutletOf, FloodOf, Between, During, Spread, Wanted}
 use Rattle.flood_laws.specs.Flood.{Touched, Room, Opens, Opening}
 use Rattle.flood_laws.proofs.Marks.{room, no-marks, at-most}
 use Rattle.flood_laws.proofs.Reach as Reach

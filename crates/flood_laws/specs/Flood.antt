@@ -1,10 +1,10 @@
 -- The state of a flood, over two lists: f, with the keys of the cells and then the cells in order of key, which stays; and b, with the
 -- queue of the reached cells and then the level of each cell, its filled key, 0 where it is not reached.
 use mathlib.Core.Path.{_≡_}
-use mathlib.Core.Bool.{Bool, cond}
+use mathlib.Core.Bool.{cond}
 use mathlib.Core.Logic.{_⊎_}
 use mathlib.Core.List.{List}
-use Prim.Native.Nat.{ℕ, zero, suc, _+_, _*_, _≤_, _<_}
+use Prim.Native.Nat.{ℕ, zero, suc, _+_, _≤_, _<_}
 use lib.ListN.{length, getD, set}
 use lib.Dec.{ltb}
 use Rattle.grid.specs.declared.Grid.{Grid}

@@ -1,18 +1,18 @@
 -- The sum over the equal neighbours one level lower, and the code of a cell.
 use mathlib.Core.Path.{_≡_, refl, sym, _∙_, ap, subst}
-use mathlib.Core.Bool.{Bool, true, false, cond, not, _&&_, _||_}
+use mathlib.Core.Bool.{Bool, true, false, cond, _&&_, _||_}
 use mathlib.Core.Logic.{_⊎_, inl, inr, ⊎-elim}
 use mathlib.Core.List.{List}
-use Prim.Native.Nat.{ℕ, zero, suc, _+_, _-_, _/_, _%_, _≤_, _<_}
+use Prim.Native.Nat.{ℕ, suc, _+_, _-_, _/_, _%_, _≤_, _<_}
 use native.Mathlib.Omega.{arith}
 use native.Mathlib.Decide.{ℕ-discrete}
 use lib.Dec.{eqb, ltb}
-use lib.ListN.{length, getD, take}
+use lib.ListN.{length, getD}
 use lib.Seq.{getD-take}
 use lib.IntN.{ℤ}
 use borrow.Author.Tests.{eq-eqb, eqb-true, lt-ltb, ltb-true}
 use Rattle.grid.specs.declared.Grid.{Grid}
-use Rattle.grid.specs.Below.{table, sumBelow}
+use Rattle.grid.specs.Below.{sumBelow}
 use Rattle.grid.specs.Sheet.{size, at, isData, neighbour, codeAt}
 use Rattle.grid.specs.Outlet.{isOutlet}
 use Rattle.grid.specs.Directions.{isEqual, isLevelZero, hasDescent, choice, flatSum, directionAt}

@@ -6,16 +6,15 @@
 use cells::key_at;
 use grid::Grid;
 ghost use mathlib.Core.Path.{_≡_};
-ghost use mathlib.Core.Bool.{Bool, true, false, cond, _&&_};
+ghost use mathlib.Core.Bool.{true, false, cond, _&&_};
 ghost use Prim.Native.Nat.{ℕ, suc, _+_, _*_, _/_, _%_, _<_, _≤_, _^_};
 ghost use lib.Dec.{eqb};
 ghost use lib.ListN.{length, getD};
-ghost use lib.IntN.{ℤ};
 ghost use Rattle.grid.specs.Below.{table as table', firstBelow};
 ghost use Rattle.grid.specs.Sheet.{size, at, isData, codeAt};
 ghost use Rattle.grid.specs.Outlet.{isOutlet};
 ghost use Rattle.grid.specs.Directions.{directionAt, directions, flatSum, firstUnlevelled};
-ghost use Rattle.cells.specs.Keys.{keyOf, levelOf};
+ghost use Rattle.cells.specs.Keys.{levelOf};
 ghost use Rattle.cells.specs.Steps.{Inner};
 ghost use Rattle.slopes.specs.Steepest.{choices as choices', innerSum};
 ghost use Rattle.flow_laws.specs.Words.{wordLevel, levelsIn, firstWord, Seeded, Levelled};

@@ -1,18 +1,18 @@
 -- Following codes never rises, and falls in (elevation, level); an outlet's code leaves the sheet's data.
 use mathlib.Core.Path.{_≡_, refl, sym, _∙_, ap, subst}
-use mathlib.Core.Bool.{Bool, true, false, not, cond, _&&_, _||_}
+use mathlib.Core.Bool.{Bool, true, false, _&&_, _||_}
 use mathlib.Core.Logic.{_⊎_, inl, inr, ⊎-elim}
 use mathlib.Core.List.{List, []}
-use Prim.Native.Nat.{ℕ, zero, suc, _≤_, _<_}
+use Prim.Native.Nat.{ℕ, zero, suc, _<_}
 use native.Mathlib.Omega.{arith}
 use native.Mathlib.Decide.{decLt}
 use lib.Dec.{eqb, ltb}
 use lib.ListN.{length, getD, List·getD-eq-default}
 use lib.IntN.{ℤ}
-use lib.Signed.{_≤ℤ_, _<ℤ_}
+use lib.Signed.{_<ℤ_}
 use borrow.Author.Tests.{lt-ltb, eq-eqb, eqb-true}
 use Rattle.grid.specs.declared.Grid.{Grid}
-use Rattle.grid.specs.Below.{table, firstBelow}
+use Rattle.grid.specs.Below.{firstBelow}
 use Rattle.grid.specs.Sheet.{size, at, isData, neighbour, codeAt, positionOf}
 use Rattle.grid.specs.Outlet.{leavesAt, isOutlet, outletOrder, outletCode}
 use Rattle.grid.specs.Directions.{isSteepest, steepestSum, choice, isEqual, hasDescent, isLevelZero, flatSum, directionAt, directions}

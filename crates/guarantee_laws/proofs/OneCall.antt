@@ -1,20 +1,20 @@
 -- Demand 3 for the four results of the one call: on the filled sheet the directions lead downhill. So nothing that a separate call could
 -- ask later (10 to 12) is ever answered by no: every data cell has a level, every code is one of the eight or 0, every route ends.
-use mathlib.Core.Path.{_≡_, refl, sym, _∙_, ap, subst}
-use mathlib.Core.Bool.{Bool, true, false, not, _&&_}
-use mathlib.Core.Logic.{_⊎_, inl, inr, ⊎-elim}
-use mathlib.Core.List.{List, [], _∷_}
-use Prim.Native.Nat.{ℕ, _+_, _≤_, _<_}
+use mathlib.Core.Path.{_≡_, refl, sym, _∙_}
+use mathlib.Core.Bool.{true, false, not, _&&_}
+use mathlib.Core.Logic.{inl, inr, ⊎-elim}
+use mathlib.Core.List.{List}
+use Prim.Native.Nat.{ℕ, _<_}
 use native.Mathlib.Omega.{arith}
 use native.Mathlib.Decide.{decLt}
-use lib.Dec.{T, eqb}
+use lib.Dec.{eqb}
 use lib.ListN.{length, getD, List·getD-eq-default}
 use lib.IntN.{ℤ}
-use lib.Signed.{ltZ, _≤ℤ_, _<ℤ_}
+use lib.Signed.{ltZ, _<ℤ_}
 use borrow.Author.Tests.{eq-eqb}
 use Rattle.grid.specs.declared.Grid.{Grid}
-use Rattle.grid.specs.Sheet.{size, at, isData, DataCell, Touch}
-use Rattle.grid.specs.Outlet.{isOutlet, Outlet}
+use Rattle.grid.specs.Sheet.{size, at, isData, DataCell}
+use Rattle.grid.specs.Outlet.{isOutlet}
 use Rattle.grid.specs.Fill.{filled}
 use Rattle.grid.specs.Directions.{levels, directions, firstUnlevelled}
 use Rattle.grid.specs.Routes.{positionAt, hasCode, receiver, routeEnds, firstBadCode, firstEndless, counts, labels}
@@ -23,8 +23,7 @@ use Rattle.grid_laws.proofs.Tests.{test, T-true, true-T, true-false, not-true-f
 use Rattle.grid_laws.proofs.Tests.{and-false-right}
 use Rattle.grid_laws.proofs.Below.{first-none}
 use Rattle.grid_laws.proofs.Order.{≤ℤ-not-<}
-use Rattle.grid_laws.proofs.Cells.{InRange, on-sheet}
-use Rattle.grid_laws.proofs.Outlets.{outlet-data}
+use Rattle.grid_laws.proofs.Cells.{InRange}
 use Rattle.cells.specs.Keys.{keyOf}
 use Rattle.cells.proofs.Keys.{key-order}
 use Rattle.fill_laws.proofs.Filled.{filled-length, filled-range, filled-data, filled-outlet, filled-drained, filled-≤-highest}

@@ -1,7 +1,6 @@
 -- What demand 3 admits: no other sheet than the filled one ("filled to its highest border" is rejected, and so is a copy of the input),
 -- and at data cells no other counts and labels than those of the codes.
-use mathlib.Core.Path.{_≡_, refl, sym, _∙_, ap}
-use mathlib.Core.Bool.{Bool, true, false}
+use mathlib.Core.Path.{_≡_, sym, _∙_}
 use mathlib.Core.Logic.{⊎-elim}
 use mathlib.Core.List.{List}
 use Prim.Native.Nat.{ℕ, _+_, _<_}
@@ -11,10 +10,10 @@ use lib.Seq.{ext-getD}
 use lib.IntN.{ℤ}
 use Rattle.grid.specs.declared.Grid.{Grid}
 use Rattle.grid.specs.Below.{lastOf}
-use Rattle.grid.specs.Sheet.{size, void, at, isData, DataCell}
+use Rattle.grid.specs.Sheet.{size, void, isData, DataCell}
 use Rattle.grid.specs.Fill.{filled}
 use Rattle.grid.specs.Routes.{countAt, counts, route}
-use Rattle.grid.specs.Guarantee.{RouteGuarantee, Guarantee}
+use Rattle.grid.specs.Guarantee.{Guarantee}
 use Rattle.grid_laws.proofs.Tests.{test, T-true, true-T}
 use Rattle.grid_laws.proofs.Below.{at-table}
 use Rattle.grid_laws.proofs.Order.{≤ℤ-antisym}

@@ -1,16 +1,15 @@
 -- The labels are the results of the walk less n + 1.
-use mathlib.Core.Path.{_≡_, refl, sym, _∙_, ap, subst}
-use mathlib.Core.List.{List, _++_}
+use mathlib.Core.Path.{_≡_, sym, _∙_, ap}
+use mathlib.Core.List.{List}
 use Prim.Native.Nat.{ℕ, _+_, _-_, _≤_, _<_}
 use native.Mathlib.Omega.{arith}
-use native.Mathlib.Decide.{ℕ-discrete}
-use lib.ListN.{length, getD, drop, set, length-set}
+use lib.ListN.{length, getD, drop, set}
 use lib.Seq.{getD-set-same, getD-set-other}
 use borrow.Author.Count.{below-more}
 use borrow.Author.Tests.{eq-eqb, ne-eqb}
 use Rattle.grid.specs.Below.{table}
 use Rattle.grid_laws.proofs.Tests.{cond-true, cond-false}
-use Rattle.grid_laws.proofs.Below.{is-table, table-ext, first-≤}
+use Rattle.grid_laws.proofs.Below.{table-ext, first-≤}
 use Rattle.route_laws.specs.Ends.{lastMark, firstUnending}
 use Rattle.route_laws.specs.Walking.{liveAt, nextAt, Walked}
 use Rattle.route_laws.proofs.Front.{at-front}

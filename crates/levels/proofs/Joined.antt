@@ -1,19 +1,19 @@
 -- The look for cells of level 1, one cell after the other.
 use mathlib.Core.Path.{_≡_, refl, sym, _∙_, ap, subst}
 use mathlib.Core.Bool.{Bool, true, false, cond}
-use mathlib.Core.Logic.{_⊎_, ⊎-elim}
+use mathlib.Core.Logic.{⊎-elim}
 use mathlib.Core.List.{List, []}
-use Prim.Native.Nat.{ℕ, zero, suc, _+_, _-_, _/_, _%_, _≤_, _<_}
+use Prim.Native.Nat.{ℕ, suc, _+_, _/_, _%_, _≤_, _<_}
 use native.Mathlib.Omega.{arith}
 use lib.ListN.{length, getD, take, set}
 use lib.Seq.{getD-take}
 use lib.IntN.{ℤ}
 use Rattle.grid.specs.declared.Grid.{Grid}
-use Rattle.grid.specs.Sheet.{size, at, isData, neighbour}
+use Rattle.grid.specs.Sheet.{size, isData, neighbour}
 use Rattle.grid.specs.Directions.{isEqual, isLevelZero, directionAt}
 use Rattle.grid_laws.proofs.Tests.{test, true-false, cond-true, cond-false}
 use Rattle.cells.specs.Steps.{Inner}
-use Rattle.flow_laws.specs.Search.{Equal, Search}
+use Rattle.flow_laws.specs.Search.{Equal}
 use Rattle.flow_laws.specs.Words.{wordLevel, levelIn, queueIn, firstWord, Seeded, Searching, Joining}
 use Rattle.flow_laws.proofs.Search.{last?, looked, search-none}
 use Rattle.flow_laws.proofs.Agree.{equal-data}

@@ -1,9 +1,9 @@
 -- The look at the eight neighbours of the queue's first.
 use mathlib.Core.Path.{_≡_, refl, sym, _∙_, ap, subst}
 use mathlib.Core.Bool.{Bool, true}
-use mathlib.Core.Logic.{_⊎_, inl, inr, ⊎-elim}
+use mathlib.Core.Logic.{inl, inr, ⊎-elim}
 use mathlib.Core.List.{List}
-use Prim.Native.Nat.{ℕ, suc, _+_, _-_, _/_, _%_, _≤_, _<_}
+use Prim.Native.Nat.{ℕ, suc, _+_, _/_, _%_, _≤_, _<_}
 use native.Mathlib.Omega.{arith}
 use lib.ListN.{length, getD, take, set}
 use lib.Seq.{getD-take}
@@ -14,7 +14,7 @@ use Rattle.grid.specs.Directions.{isEqual}
 use Rattle.grid_laws.proofs.Cells.{on-sheet}
 use Rattle.cells.specs.Keys.{levelOf}
 use Rattle.cells.specs.Steps.{Inner}
-use Rattle.flow_laws.specs.Search.{Equal, Search}
+use Rattle.flow_laws.specs.Search.{Equal}
 use Rattle.flow_laws.specs.Words.{wordLevel, levelIn, queueIn, Searching}
 use Rattle.flow_laws.proofs.Search.{last?, popped}
 use Rattle.flow_laws.proofs.Equals.{is-equal, equal-height, equal-on, equal-back}

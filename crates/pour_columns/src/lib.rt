@@ -5,9 +5,9 @@
 use grid::Grid;
 use pour::CAPACITY;
 ghost use mathlib.Core.Path.{_≡_};
-ghost use Prim.Native.Nat.{ℕ, _+_, _-_, _*_, _/_, _%_, _<_, _≤_};
+ghost use Prim.Native.Nat.{_+_, _-_, _/_, _%_, _<_, _≤_};
 ghost use lib.ListN.{length, getD};
-ghost use lib.IntN.{ℤ, pos};
+ghost use lib.IntN.{pos};
 ghost use Rattle.grid.specs.Sheet.{size};
 ghost use Rattle.grid.specs.PourPoints.{pourPoints};
 ghost use Rattle.cells.specs.Keys.{levelOf};

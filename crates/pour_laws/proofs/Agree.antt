@@ -1,17 +1,17 @@
 -- A batch that has seen every candidate is the next stretch of the entries.
 use mathlib.Core.Path.{_≡_, refl, sym, _∙_, ap, subst}
-use mathlib.Core.List.{List, [], _∷_, map}
-use mathlib.Core.Logic.{_⊎_, inl, inr, ⊎-elim}
-use Prim.Native.Nat.{ℕ, zero, suc, _+_, _-_, _*_, _≤_, _<_}
+use mathlib.Core.List.{List, [], _∷_}
+use mathlib.Core.Logic.{_⊎_, inl, inr}
+use Prim.Native.Nat.{ℕ, zero, suc, _+_, _-_, _≤_, _<_}
 use native.Mathlib.Nat.{le-antisymm}
 use native.Mathlib.Omega.{arith}
-use native.Mathlib.Decide.{decLt, decLe, ℕ-discrete}
-use lib.ListN.{length, getD, length-map}
+use native.Mathlib.Decide.{decLt, decLe}
+use lib.ListN.{length, getD}
 use Rattle.grid.specs.PourPoints.{Entry}
-use Rattle.pour_laws.specs.Words.{pairOf, rankOf, Fits, Among}
+use Rattle.pour_laws.specs.Words.{pairOf, rankOf, Among}
 use Rattle.pour_laws.specs.Batch.{Held, Batch, pairsOf, ranksOf, Reached}
 use Rattle.pour_laws.proofs.Batch.{rising-to, rising-le}
-use Rattle.pour_laws.proofs.Whole.{Rising, Above, Bettered, Whole, AllFit}
+use Rattle.pour_laws.proofs.Whole.{Rising, Above, Whole, AllFit}
 
 -- ---- entries by their number
 above-at : (p : ℕ) (l : List Entry) → Above p l → (i : ℕ) → i < length l → p < getD (pairsOf l) i 0

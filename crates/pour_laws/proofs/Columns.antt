@@ -1,9 +1,9 @@
 -- What a scan adds to the columns: the fields of the next entries, taken out of their two numbers.
 use mathlib.Core.Path.{_≡_, refl, sym, _∙_, ap, subst}
-use mathlib.Core.Bool.{Bool, true, false, cond}
+use mathlib.Core.Bool.{Bool}
 use mathlib.Core.List.{List, [], _∷_, _++_, map}
-use mathlib.Core.Logic.{_⊎_, inl, inr, ⊎-elim}
-use Prim.Native.Nat.{ℕ, zero, suc, _+_, _-_, _*_, _/_, _%_, _≤_, _<_}
+use mathlib.Core.Logic.{inl, inr}
+use Prim.Native.Nat.{ℕ, zero, suc, _+_, _-_, _/_, _%_, _≤_, _<_}
 use native.Mathlib.Nat.{div-one, mod-eq-of-lt}
 use native.Mathlib.Omega.{arith}
 use native.Mathlib.Decide.{decLt}
@@ -20,7 +20,7 @@ use Rattle.grid.specs.PourPoints.{Entry, pourPoints}
 use Rattle.cells.specs.Keys.{keyOf, levelOf}
 use Rattle.cells.proofs.Keys.{level-key, key-small}
 use Rattle.pour_laws.specs.Words.{pairOf, rankOf, Fits, Among}
-use Rattle.pour_laws.specs.Batch.{capacity, Batch, pairsOf, ranksOf, Reached}
+use Rattle.pour_laws.specs.Batch.{capacity, Batch, Reached}
 use Rattle.pour_laws.specs.Lines.{lines}
 use Rattle.pour_laws.specs.Columns.{Put, ColumnTo, Between, Puts, ColumnsTo, OneLength, Written, Settled, noRoom, counted}
 use Rattle.pour_laws.proofs.Whole.{Whole, AllFit}

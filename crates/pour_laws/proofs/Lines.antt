@@ -1,23 +1,23 @@
 -- The scan by lines meets every candidate of the definition's list, which has both directions of each two cells, and no other.
-use mathlib.Core.Path.{_≡_, refl, sym, _∙_, ap, ap₂, subst}
+use mathlib.Core.Path.{_≡_, refl, sym, _∙_, ap, subst}
 use mathlib.Core.Bool.{Bool, true, false, not, cond, _&&_}
 use mathlib.Core.List.{List, [], _∷_, _++_}
 use mathlib.Core.Logic.{_⊎_, inl, inr, ⊎-elim}
-use Prim.Native.Nat.{ℕ, zero, suc, _+_, _-_, _*_, _≤_, _<_, min, max}
+use Prim.Native.Nat.{ℕ, zero, suc, _+_, _-_, _*_, _<_, min}
 use native.Mathlib.Nat.{min-comm, max-comm}
 use native.Mathlib.Omega.{arith}
 use native.Mathlib.Decide.{decLt, ℕ-discrete}
 use lib.Dec.{eqb, ltb, leb}
 use lib.ListN.{length, getD}
 use lib.IntN.{ℤ, pos, negsuc}
-use lib.Signed.{ltZ, leZ}
-use borrow.Author.Tests.{lt-ltb, le-ltb, le-leb, lt-leb, eq-eqb, ne-eqb, ltb-true, ltb-false}
+use lib.Signed.{ltZ}
+use borrow.Author.Tests.{lt-ltb, le-leb, lt-leb, eq-eqb, ne-eqb, ltb-true}
 use Rattle.grid.specs.declared.Grid.{Grid}
 use Rattle.grid.specs.Below.{joinBelow}
 use Rattle.grid.specs.Sheet.{size, at, higher, isData, neighbour}
 use Rattle.grid.specs.PourPoints.{Entry, candidate, candidatesAt, candidates, pourPoints}
 use Rattle.grid_laws.proofs.Cells.{on-sheet}
-use Rattle.pour_laws.specs.Words.{Fits, Among}
+use Rattle.pour_laws.specs.Words.{Among}
 use Rattle.pour_laws.specs.Lines.{candidateOf, run, between, line, lines}
 use Rattle.pour_laws.proofs.Neighbours.{Later, east, south-east, south, south-west, later-touches, touch-later}
 use Rattle.pour_laws.proofs.Whole.{Whole, AllFit, whole, whole-same}

@@ -1,12 +1,11 @@
 -- The entries of `insertAll`: they rise by pair, each is a candidate, and each candidate's pair has an entry of at least as good a rank.
 use mathlib.Core.Path.{_≡_, refl, sym, _∙_, ap, subst}
 use mathlib.Core.Bool.{Bool, true, false, cond}
-use mathlib.Core.List.{List, [], _∷_, map}
+use mathlib.Core.List.{List, [], _∷_}
 use mathlib.Core.Logic.{_⊎_, inl, inr, ⊎-elim}
-use Prim.Native.Nat.{ℕ, zero, suc, _+_, _-_, _*_, _≤_, _<_}
+use Prim.Native.Nat.{ℕ, _≤_, _<_}
 use native.Mathlib.Omega.{arith}
 use lib.Dec.{eqb, ltb}
-use lib.ListN.{length, getD}
 use borrow.Author.Tests.{ltb-true, ltb-false, eqb-true, eqb-false}
 use Rattle.grid.specs.PourPoints.{Entry, pairBelow, samePair, better, insert, insertAll}
 use Rattle.pour_laws.specs.Words.{pairOf, rankOf, Fits, Among}

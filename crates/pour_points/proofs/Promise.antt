@@ -1,24 +1,24 @@
 -- The questions of Table 6 in order, and the promise at each no and after the last yes.
-use mathlib.Core.Path.{_≡_, refl, sym, _∙_, ap, subst}
-use mathlib.Core.Bool.{Bool, true, false, cond, _&&_}
-use mathlib.Core.Logic.{_⊎_, inl, inr, ⊎-elim}
+use mathlib.Core.Path.{_≡_, refl, sym, _∙_, ap}
+use mathlib.Core.Bool.{true, false, cond}
+use mathlib.Core.Logic.{_⊎_, inl, inr}
 use mathlib.Core.List.{List, [], _∷_}
-use Prim.Native.Nat.{ℕ, _+_, _*_, _≤_, _<_}
+use Prim.Native.Nat.{ℕ, _*_, _≤_}
 use native.Mathlib.Omega.{arith}
-use lib.Dec.{eqb, leb}
+use lib.Dec.{eqb}
 use lib.ListN.{length}
 use lib.IntN.{ℤ}
-use borrow.Author.Tests.{eq-eqb, ne-eqb, eqb-true}
+use borrow.Author.Tests.{eq-eqb, ne-eqb}
 use Rattle.grid.specs.declared.Grid.{Grid}
 use Rattle.grid.specs.declared.Answer.{Answer}
 use Rattle.grid.specs.declared.Counted.{Counted}
 use Rattle.grid.specs.Sheet.{size}
-use Rattle.grid.specs.Checks.{refusal, accepted, ask, inRange, allHave, askSheets, askWork, pourPointsCheck, ofCounted, reported}
+use Rattle.grid.specs.Checks.{refusal, accepted, inRange, allHave, askSheets, askWork, pourPointsCheck}
 use Rattle.grid.specs.PourPoints.{pourPoints}
 use Rattle.grid.specs.Promises.{PourPointsPromise}
 use Rattle.grid_laws.proofs.Tests.{test, cond-true, cond-false, and-true}
 use Rattle.checks.specs.Sizes.{Fits}
-use Rattle.checks.proofs.Asked.{rows-no, cols-no, inputs-no, sheets-yes, work-yes, fits-of-range, have-first, have-rest, Passed, Refused}
+use Rattle.checks.proofs.Asked.{rows-no, cols-no, inputs-no, sheets-yes, work-yes, fits-of-range, have-first, have-rest, Passed}
 use Rattle.checks.proofs.Asked.{passed, refused}
 use Rattle.pour_laws.specs.Batch.{Scanned}
 use Rattle.pour_laws.specs.Columns.{OneLength, Settled}

@@ -1,6 +1,6 @@
 -- The questions of `read` in two parts: about the text alone, and about its rows and columns. `readCheck` is the first, and after a yes
 -- the second.
-use Prim.Native.Nat.{ℕ, _≤_}
+use Prim.Native.Nat.{ℕ}
 use mathlib.Core.List.{List}
 use lib.Dec.{eqb, leb}
 use lib.ListN.{length}

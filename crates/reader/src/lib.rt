@@ -3,7 +3,6 @@
 // elevations are stored by `text_sheet`.
 ghost use mathlib.Core.Path.{_≡_};
 ghost use Prim.Native.Nat.{_≤_};
-ghost use lib.ListN.{length};
 ghost use Rattle.grid.specs.Promises.{ReadPromise};
 ghost use Rattle.reader.specs.Parts.{textCheck, sizeCheck, withoutSize};
 use grid::Answer;

@@ -1,24 +1,24 @@
 -- Codes by table, and the mark of a cell by the tests that a program makes.
 use mathlib.Core.Path.{_≡_, refl, sym, _∙_, ap, subst}
 use mathlib.Core.Logic.{_⊎_, inl, inr, ⊎-elim}
-use mathlib.Core.Bool.{Bool, true, false, not, cond, _&&_, _||_}
-use mathlib.Core.List.{List, [], _∷_}
-use Prim.Native.Nat.{ℕ, zero, suc, _+_, _-_, _*_, _/_, _%_, _^_, _≤_, _<_}
+use mathlib.Core.Bool.{Bool, true, false, not, cond, _&&_}
+use mathlib.Core.List.{List}
+use Prim.Native.Nat.{ℕ, _+_, _-_, _*_, _/_, _%_, _^_, _≤_, _<_}
 use native.Mathlib.Omega.{arith}
 use native.Mathlib.Nat.{mul-comm, le-mul-of-pos-right}
-use native.Mathlib.Decide.{decLt, ℕ-discrete}
+use native.Mathlib.Decide.{decLt}
 use lib.Dec.{eqb, ltb, lit<}
 use lib.ListN.{length, getD, take, set, replicate}
 use lib.Seq.{getD-take, length-take-le}
-use borrow.Author.Tests.{eqb-true, eqb-false, eq-eqb, ne-eqb, ltb-true, ltb-false, lt-ltb, le-ltb}
+use borrow.Author.Tests.{eqb-true, ltb-true}
 use Rattle.grid.specs.declared.Grid.{Grid}
 use Rattle.grid.specs.Below.{table, firstBelow}
 use Rattle.grid.specs.Sheet.{size, codeAt, positionOf, neighbour}
 use Rattle.grid.specs.Routes.{positionAt, hasCode, receiver, firstBadCode}
-use Rattle.grid_laws.proofs.Tests.{test, true-false, cond-true, cond-false, or-left, or-right, or-cases, or-none-left, or-none-right}
-use Rattle.grid_laws.proofs.Tests.{and-true, and-false-left, and-false-right, not-of-true, not-of-false, not-true-false, same-test}
-use Rattle.grid_laws.proofs.Below.{at-table, first-is, first-none, first-found, first-all, first-≤}
-use Rattle.grid_laws.proofs.Neighbours.{down, right, at-eight, down-small, right-small, neighbour-≤, inner-neighbour}
+use Rattle.grid_laws.proofs.Tests.{test, true-false, cond-true, cond-false, or-cases, or-none-left, or-none-right}
+use Rattle.grid_laws.proofs.Tests.{and-true, and-false-left, and-false-right, not-of-true, not-of-false, not-true-false}
+use Rattle.grid_laws.proofs.Below.{at-table, first-is, first-none, first-found, first-all}
+use Rattle.grid_laws.proofs.Neighbours.{down, right, at-eight, inner-neighbour}
 use Rattle.route_laws.specs.Receivers.{receiverMark, AllCodes}
 use Rattle.route_laws.proofs.Receivers.{code-below}
 use Rattle.cells.specs.Steps.{Inner}

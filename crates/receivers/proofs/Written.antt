@@ -1,17 +1,16 @@
 -- The list of receivers while it is written, place by place; rows and columns along the numbering.
-use mathlib.Core.Path.{_≡_, refl, sym, _∙_, ap, ap₂, subst}
-use mathlib.Core.Logic.{_⊎_, inl, inr, ⊎-elim}
-use mathlib.Core.List.{List, [], _∷_, _++_}
-use Prim.Native.Nat.{ℕ, zero, suc, _+_, _-_, _*_, _/_, _%_, _≤_, _<_}
-use native.Mathlib.Nat.{div-add-mod', suc-mul, mod-lt}
+use mathlib.Core.Path.{_≡_, refl, sym, _∙_, ap, ap₂}
+use mathlib.Core.List.{List, _++_}
+use Prim.Native.Nat.{ℕ, suc, _+_, _-_, _*_, _/_, _%_, _≤_, _<_}
+use native.Mathlib.Nat.{div-add-mod', suc-mul}
 use native.Mathlib.Omega.{arith}
-use native.Mathlib.Decide.{ℕ-discrete, decLt}
+use native.Mathlib.Decide.{ℕ-discrete}
 use lib.Arith.{digits-div, digits-mod}
 use lib.ListN.{length, getD, take, drop, set, length-set, length-drop, take-append-drop}
 use lib.Seq.{ext-getD, getD-take, getD-drop, drop-drop, length-take-le, getD-set-same, getD-set-other}
 use Rattle.grid.specs.declared.Grid.{Grid}
 use Rattle.grid.specs.Sheet.{size}
-use Rattle.route_laws.specs.Receivers.{receiverMark, receivers, AllCodes}
+use Rattle.route_laws.specs.Receivers.{receiverMark, receivers}
 use Rattle.route_laws.proofs.Front.{is-front}
 use Rattle.receivers.specs.Written.{WrittenTo}
 

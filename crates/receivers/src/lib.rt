@@ -7,10 +7,9 @@
 use cells::Direction;
 use grid::Grid;
 ghost use mathlib.Core.Path.{_≡_};
-ghost use mathlib.Core.Bool.{Bool, true, false};
 ghost use mathlib.Core.List.{_++_};
-ghost use Prim.Native.Nat.{ℕ, _+_, _*_, _/_, _%_, _<_, _≤_, _^_};
-ghost use lib.ListN.{length, getD, take, drop, set};
+ghost use Prim.Native.Nat.{_+_, _*_, _/_, _%_, _<_, _≤_, _^_};
+ghost use lib.ListN.{length, take, drop, set};
 ghost use Rattle.grid.specs.Sheet.{size, positionOf, neighbour};
 ghost use Rattle.grid.specs.Routes.{firstBadCode};
 ghost use Rattle.route_laws.specs.Receivers.{receiverMark, receivers, AllCodes};

@@ -5,14 +5,13 @@
 // entries.
 use grid::Grid;
 ghost use mathlib.Core.Path.{_≡_};
-ghost use mathlib.Core.Bool.{Bool, true, false, cond};
+ghost use mathlib.Core.Bool.{cond};
 ghost use Prim.Native.Nat.{ℕ, _+_, _-_, _*_, _/_, _%_, _<_, _≤_, _^_};
 ghost use lib.Dec.{ltb};
 ghost use lib.ListN.{length, getD};
 ghost use Rattle.grid.specs.Sheet.{size};
 ghost use Rattle.grid.specs.Directions.{squaredDistance, choice};
 ghost use Rattle.cells.specs.Around.{KnownTo};
-ghost use Rattle.cells.specs.Keys.{keyOf};
 ghost use Rattle.cells.specs.Steps.{Inner};
 ghost use Rattle.slopes.specs.Steepest.{choices as choices', keysOf, steepestIn, markedIn, innerSum};
 ghost use Rattle.slopes.specs.Steepest.{lowerOf, lowestOf, membersOf, lowSide, lowCorner, sideCodes, cornerCodes, leadsOf, largerOf};

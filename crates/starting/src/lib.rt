@@ -3,10 +3,10 @@
 // minus the cell's own": it is above the threshold where the one count is above the sum of the other and the threshold, in 64 bits, so
 // nothing wraps. `proofs/Starts` shows that these are the cells of the definition.
 ghost use mathlib.Core.Path.{_≡_};
-ghost use mathlib.Core.Bool.{Bool, true, false, cond};
-ghost use Prim.Native.Nat.{ℕ, _+_, _<_, _≤_};
+ghost use mathlib.Core.Bool.{false, cond};
+ghost use Prim.Native.Nat.{_+_, _<_, _≤_};
 ghost use lib.Dec.{ltb};
-ghost use lib.ListN.{length, getD, set};
+ghost use lib.ListN.{length, set};
 ghost use Rattle.grid.specs.Below.{table, countBelow};
 ghost use Rattle.starting.specs.Marked.{startBy, startNumber};
 

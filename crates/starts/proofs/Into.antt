@@ -1,7 +1,7 @@
 -- The tail on its way: t₀ at entry, t₁ with the receivers in front, t₂ after the pass. From its answer to what is left.
 use mathlib.Core.Path.{_≡_, refl, sym, _∙_, ap}
 use mathlib.Core.List.{List, _++_}
-use Prim.Native.Nat.{ℕ, _+_, _-_, _*_, _≤_, _<_}
+use Prim.Native.Nat.{ℕ, _*_, _≤_, _<_}
 use native.Mathlib.Omega.{arith}
 use lib.ListN.{length, take, drop}
 use Rattle.grid.specs.declared.Grid.{Grid}

@@ -1,15 +1,14 @@
 -- What the tests of single bytes say of the whole text.
 use mathlib.Core.Path.{_≡_, refl, sym, ap, _∙_}
-use mathlib.Core.Bool.{Bool, true, false, not, cond, _&&_, _||_}
+use mathlib.Core.Bool.{Bool, true, false, not, cond, _&&_}
 use mathlib.Core.List.{List}
 use mathlib.Core.Logic.{_⊎_, inl, inr, ⊎-elim}
 use Prim.Native.Nat.{ℕ, _+_, _-_, _*_, _%_, _≤_, _<_}
 use native.Mathlib.Nat.{mul-le-mul}
 use native.Mathlib.Omega.{arith}
-use lib.Dec.{leb, ltb, eqb}
+use lib.Dec.{eqb}
 use lib.ListN.{length, getD}
 use borrow.Author.Tests.{lt-ltb, le-ltb, le-leb, lt-leb, eq-eqb, ne-eqb}
-use Rattle.grid.specs.Below.{anyBelow, firstBelow}
 use Rattle.grid.specs.declared.Grid.{Grid}
 use Rattle.grid.specs.Frames.{lineFeed, hexValue, isTextByte, number4, textGrid, endsLine, isShaped, firstBadByte}
 use Rattle.grid_laws.proofs.Below.{first-none, first-is, none-of, any-of}

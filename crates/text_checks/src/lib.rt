@@ -3,9 +3,8 @@
 // nothing more?". Each is one loop over the bytes, and a test of each byte; the header's numbers are read by the cursor.
 ghost use mathlib.Core.Path.{_≡_};
 ghost use Prim.Native.Nat.{_≤_};
-ghost use lib.Dec.{eqb};
 ghost use lib.ListN.{length};
-ghost use Rattle.grid.specs.Frames.{lineFeed, isTextByte, firstBadByte, endsLine, isShaped};
+ghost use Rattle.grid.specs.Frames.{isTextByte, firstBadByte, endsLine, isShaped};
 ghost use Rattle.text_checks.specs.Shape.{isPlaced, feedsEndLines, HeaderRead};
 use cursor::Cursor;
 use grid::Grid;

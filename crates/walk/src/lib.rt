@@ -6,9 +6,8 @@
 // the first cell that has a result or is the route's end, then goes down again and writes. A walk of more than n steps has met a ring, so
 // its start is the first endless cell: those before it have results. That a walk's steps are the route's is a law (`route_laws`,
 // `proofs/Walking`).
-ghost use mathlib.Core.Path.{_≡_};
-ghost use mathlib.Core.Bool.{Bool, true, false};
-ghost use Prim.Native.Nat.{ℕ, _+_, _<_, _≤_, _^_};
+ghost use mathlib.Core.Bool.{true, false};
+ghost use Prim.Native.Nat.{_+_, _<_, _≤_, _^_};
 ghost use lib.ListN.{length, getD, take};
 ghost use Rattle.route_laws.specs.Receivers.{Marks};
 ghost use Rattle.route_laws.specs.Walking.{Descent, Settled, Stepped, Walked};

@@ -1,22 +1,18 @@
 -- The answers to 11, 12 and 13, each by the first cell for which it is no.
-use mathlib.Core.Path.{_≡_, refl, sym, _∙_, ap}
-use mathlib.Core.Logic.{_⊎_, inl, inr, ⊎-elim}
-use mathlib.Core.Bool.{Bool, true, false, cond, _&&_}
+use mathlib.Core.Path.{_≡_, sym, _∙_, ap}
+use mathlib.Core.Bool.{true, false, _&&_}
 use mathlib.Core.List.{List}
-use Prim.Native.Nat.{ℕ, _+_, _≤_, _<_}
+use Prim.Native.Nat.{ℕ, _≤_, _<_}
 use native.Mathlib.Omega.{arith}
 use native.Mathlib.Decide.{decLt}
 use lib.Dec.{eqb, ltb}
 use lib.ListN.{length, getD}
-use borrow.Author.Tests.{eq-eqb, ne-eqb, eqb-true, eqb-false}
 use Rattle.grid.specs.declared.Grid.{Grid}
 use Rattle.grid.specs.declared.Answer.{Answer}
 use Rattle.grid.specs.Below.{firstBelow}
 use Rattle.grid.specs.Sheet.{size}
-use Rattle.grid.specs.Routes.{firstBadCode, firstEndless, firstBadStart, watersheds}
-use Rattle.grid.specs.Checks.{accepted, refusal, isAccepted, askCell, askCodes}
-use Rattle.grid.specs.Promises.{resultOf}
-use Rattle.grid_laws.proofs.Tests.{test, cond-true, cond-false, and-true, and-false-left, and-false-right}
+use Rattle.grid.specs.Routes.{firstBadCode, firstEndless, firstBadStart}
+use Rattle.grid.specs.Checks.{accepted, refusal, askCell, askCodes}
 use Rattle.grid_laws.proofs.Below.{first-is, first-none, first-≤}
 use Rattle.checks.proofs.Questions.{bad-≤, endless-≤, cell-no, cell-yes, codes-bad, codes-endless, codes-yes}
 

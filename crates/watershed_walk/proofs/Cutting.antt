@@ -1,22 +1,21 @@
 -- Cutting a list of receivers at starts, place by place; what the walk then finds are the watersheds.
-use mathlib.Core.Path.{_≡_, refl, sym, _∙_, ap, ap₂, subst}
-use mathlib.Core.Logic.{_⊎_, inl, inr, ⊎-elim}
-use mathlib.Core.Bool.{Bool, true, false, cond}
+use mathlib.Core.Path.{_≡_, refl, sym, _∙_, ap, subst}
+use mathlib.Core.Bool.{true, cond}
 use mathlib.Core.List.{List, _++_}
-use Prim.Native.Nat.{ℕ, zero, suc, _+_, _-_, _≤_, _<_}
+use Prim.Native.Nat.{ℕ, _+_, _-_, _≤_, _<_}
 use native.Mathlib.Omega.{arith}
 use native.Mathlib.Decide.{ℕ-discrete}
 use lib.Dec.{ltb}
 use lib.ListN.{length, getD, take, drop, set, length-set}
-use lib.Seq.{getD-set-same, getD-set-other, set-getD, take-at, length-take-le}
+use lib.Seq.{getD-set-same, getD-set-other, set-getD, take-at}
 use borrow.Author.Tests.{le-ltb, lt-ltb}
 use Rattle.grid.specs.declared.Grid.{Grid}
 use Rattle.grid.specs.Below.{table}
 use Rattle.grid.specs.Sheet.{size}
 use Rattle.grid.specs.Routes.{firstEndless, firstBadStart, watersheds}
 use Rattle.grid_laws.proofs.Tests.{cond-true, cond-false}
-use Rattle.grid_laws.proofs.Below.{length-table, table-ext}
-use Rattle.route_laws.specs.Ends.{EndsIn, Ends, lastMark, firstUnending}
+use Rattle.grid_laws.proofs.Below.{table-ext}
+use Rattle.route_laws.specs.Ends.{Ends, lastMark}
 use Rattle.route_laws.specs.Receivers.{receivers, nextIn, liveIn, liveOf, nextOf, Marks, AllCodes}
 use Rattle.route_laws.specs.Starts.{cut, startOf, OnRoutes}
 use Rattle.route_laws.specs.Walking.{liveAt, nextAt, Walked}

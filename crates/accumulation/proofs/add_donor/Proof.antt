@@ -1,5 +1,4 @@
 -- One store, or none where the mark is no cell.
-use Prim.Native.Nat.{_-_}
 use native.Mathlib.Omega.{arith}
 use Rattle.accumulation.proofs.Stores.{donor-none, donor-one}
 use borrow.Author.Needs.{needs}

@@ -1,5 +1,4 @@
 -- The invariant is `Going`: the pass, with one cell in hand that awaits nothing. Each turn leaves one cell less, which is the measure.
-use Prim.Native.Nat.{_-_}
 use native.Mathlib.Omega.{arith}
 use Rattle.accumulation.specs.Tail.{Going}
 use Rattle.accumulation.proofs.Stores.{kept-roomy}

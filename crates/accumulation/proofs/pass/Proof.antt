@@ -1,5 +1,4 @@
 -- Two stores, or one where the route ends; that the receiver waits for this cell leaves room for the difference and the sum.
-use Prim.Native.Nat.{_-_}
 use native.Mathlib.Omega.{arith}
 use lib.ListN.{length-set}
 use Rattle.accumulation.proofs.Walk.{closes, hands, goes-on, stops, word-awaits, word-waits}

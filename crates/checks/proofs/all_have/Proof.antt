@@ -1,10 +1,7 @@
 -- Each way out by its test.
-use mathlib.Core.Path.{_≡_, sym}
-use mathlib.Core.Bool.{Bool, true, false, _&&_}
 use borrow.Author.Needs.{needs}
 use borrow.Author.Tests.{eq-eqb, ne-eqb}
 use Rattle.grid.specs.Checks.{allHave}
-use Rattle.checks.proofs.Asked.{and-all}
 use Rattle.checks.proofs.all_have.Statement.{statement}
 use Rattle.checks.proofs.all_have.Tie as tie
 

@@ -1,10 +1,8 @@
 -- Each way out by the tests that led there.
-use mathlib.Core.Path.{_≡_, sym, _∙_}
-use mathlib.Core.List.{List, [], _∷_}
-use Prim.Native.Nat.{ℕ, _*_}
+use mathlib.Core.Path.{sym, _∙_}
 use native.Mathlib.Omega.{arith}
 use borrow.Author.Needs.{needs}
-use Rattle.grid.specs.Checks.{accepted, askWork}
+use Rattle.grid.specs.Checks.{accepted}
 use Rattle.checks.proofs.Asked.{says-no, says-yes, fits-of-range, rows-no, cols-no, inputs-no, results-no, sheets-yes, work-no}
 use Rattle.checks.proofs.Asked.{work-yes}
 use Rattle.checks.proofs.check.Statement.{statement}

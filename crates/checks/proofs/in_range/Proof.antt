@@ -1,6 +1,4 @@
 -- Each way out by its test.
-use mathlib.Core.Path.{_≡_, sym}
-use lib.Dec.{leb}
 use borrow.Author.Tests.{lt-leb, le-leb}
 use Rattle.grid.specs.Checks.{inRange}
 use Rattle.checks.proofs.in_range.Statement.{statement}

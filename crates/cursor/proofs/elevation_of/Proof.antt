@@ -1,5 +1,5 @@
 -- `cursor::elevation_of`: each range of numbers has its case of `fromTwos`.
-use mathlib.Core.Path.{_≡_, sym, _∙_}
+use mathlib.Core.Path.{sym}
 use Rattle.text_laws.proofs.Words.{low, highest, difference-fits, narrow, difference-is}
 use borrow.Author.Needs.{needs}
 use Rattle.cursor.proofs.elevation_of.Statement.{statement}

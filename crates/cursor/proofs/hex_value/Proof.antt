@@ -1,5 +1,5 @@
 -- `cursor::hex_value`: each range of bytes has its case of `hexValue`.
-use mathlib.Core.Path.{_≡_, sym}
+use mathlib.Core.Path.{sym}
 use native.Mathlib.Omega.{arith}
 use Rattle.text_laws.proofs.Values.{below-digits, of-digit, below-upper, of-upper, below-lower, of-lower, above-lower}
 use borrow.Author.Needs.{needs}

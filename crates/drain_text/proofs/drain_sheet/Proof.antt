@@ -1,5 +1,5 @@
 -- `drain_text::drain_sheet`: the front of each local sheet has the size that is asked for.
-use mathlib.Core.Path.{_≡_, refl, sym, _∙_}
+use mathlib.Core.Path.{sym, _∙_}
 use Prim.Native.Nat.{_≤_}
 use native.Mathlib.Omega.{arith}
 use lib.ListN.{length}

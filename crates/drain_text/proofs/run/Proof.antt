@@ -1,5 +1,5 @@
 -- `drain_text::run`: a no is printed as its line, and what was read is drained and printed.
-use mathlib.Core.Path.{_≡_, refl, sym}
+use mathlib.Core.Path.{refl, sym}
 use native.Mathlib.Omega.{arith}
 use lib.Seq.{length-take-le}
 use Rattle.drain_text.proofs.Program.{read-rows-cols, refused, drained}

@@ -1,5 +1,4 @@
 -- The answer of the checks stands beside a no; after a yes its sizes are what `fill_into` asks for.
-use mathlib.Core.Path.{_≡_, refl, sym, _∙_, ap}
 use Rattle.fill.proofs.Promise.{refused-promise, accepted-sizes, accepted-promise}
 use borrow.Author.Needs.{needs}
 use Rattle.fill.proofs.fill.Statement.{statement}

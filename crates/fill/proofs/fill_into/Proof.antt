@@ -1,6 +1,6 @@
 -- Load, sort, flood, unload.
 use native.Mathlib.Omega.{arith}
-use mathlib.Core.Path.{_≡_, refl, sym, _∙_, ap}
+use mathlib.Core.Path.{_∙_}
 use Prim.Native.Nat.{_/_}
 use lib.ListN.{length}
 use Rattle.fill.proofs.Steps.{loaded-keys, front-sorted, none-reached, unloaded-filled}

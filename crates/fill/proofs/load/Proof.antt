@@ -1,7 +1,7 @@
 -- The first i elevations are loaded.
 use native.Mathlib.Omega.{arith}
-use Prim.Native.Nat.{ℕ, _+_, _-_, _≤_, _<_}
-use mathlib.Core.Path.{_≡_, refl, sym, _∙_, ap}
+use Prim.Native.Nat.{_-_, _≤_}
+use mathlib.Core.Path.{_≡_, refl, _∙_}
 use lib.ListN.{length, length-set}
 use Rattle.fill.proofs.Loops.{LoadTo, load-more, load-end}
 use Rattle.fill.proofs.load.Statement.{statement}

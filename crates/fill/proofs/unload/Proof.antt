@@ -1,7 +1,7 @@
 -- The first i levels are unloaded.
 use native.Mathlib.Omega.{arith}
-use Prim.Native.Nat.{ℕ, _+_, _-_, _*_, _/_, _≤_, _<_}
-use mathlib.Core.Path.{_≡_, refl, sym, _∙_, ap}
+use Prim.Native.Nat.{ℕ, _-_, _/_, _≤_, _<_}
+use mathlib.Core.Path.{_≡_, sym, _∙_}
 use lib.ListN.{length, getD, length-set}
 use Rattle.grid.specs.Sheet.{at}
 use Rattle.cells.specs.Keys.{levelOf}

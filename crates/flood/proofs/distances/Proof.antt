@@ -1,10 +1,7 @@
 -- Position by position.
 use native.Mathlib.Omega.{arith}
 use borrow.Author.Needs.{needs}
-use mathlib.Core.Path.{_≡_}
-use Prim.Native.Nat.{ℕ, _+_, _*_}
-use lib.ListN.{getD}
-use Rattle.grid_laws.proofs.Neighbours.{at-eight, down, right}
+use Rattle.grid_laws.proofs.Neighbours.{at-eight}
 use Rattle.flood.proofs.distances.Statement.{statement}
 use Rattle.flood.proofs.distances.Tie as tie
 use Rattle.flood.proofs.distances.Reads as reads

@@ -1,12 +1,11 @@
 -- From the queue's first to its end.
 use Rattle.flood_laws.specs.Packed.{frontOf, backOf}
 use native.Mathlib.Omega.{arith}
-use Prim.Native.Nat.{ℕ, _+_, _-_, _*_, _/_, _%_, _≤_, _<_}
-use mathlib.Core.Logic.{inl, inr, ⊎-elim}
-use mathlib.Core.Path.{_≡_, refl, sym, _∙_, ap}
+use Prim.Native.Nat.{_-_}
+use mathlib.Core.Path.{_≡_, refl, _∙_}
 use Rattle.grid.specs.Sheet.{size}
-use lib.ListN.{length, getD, take, drop, set}
-use Rattle.flood_laws.specs.Flood.{Between, During}
+use lib.ListN.{length}
+use Rattle.flood_laws.specs.Flood.{During}
 use Rattle.flood_laws.proofs.Steps.{during-most}
 use Rattle.flood.proofs.drain.Statement.{statement}
 use Rattle.flood.proofs.drain.Tie as tie

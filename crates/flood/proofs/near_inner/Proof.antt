@@ -1,8 +1,6 @@
 -- The law of the cells within the border: the neighbour lies at its distance from the cell above to the left.
 use native.Mathlib.Omega.{arith}
 use borrow.Author.Needs.{needs}
-use mathlib.Core.Path.{_≡_}
-use Prim.Native.Nat.{ℕ, _+_, _*_}
 use Rattle.flood.proofs.Halves.{inner-at}
 use Rattle.flood.proofs.near_inner.Statement.{statement}
 use Rattle.flood.proofs.near_inner.Tie as tie

@@ -1,7 +1,4 @@
 use native.Mathlib.Omega.{arith}
-use mathlib.Core.Logic.{inl, inr, ⊎-elim}
-use mathlib.Core.Path.{_≡_, refl, sym, _∙_, ap}
-use mathlib.Core.Bool.{true≢false}
 use Rattle.flood.proofs.Halves.{opens-void, opens-not, opens-reached}
 use borrow.Author.Needs.{needs}
 use Rattle.flood.proofs.opens.Statement.{statement}

@@ -1,4 +1,3 @@
-use native.Mathlib.Omega.{arith}
 use borrow.Author.Needs.{needs}
 use Rattle.flood.proofs.Halves.{opens-off}
 use Rattle.flood.proofs.opens_any.Statement.{statement}

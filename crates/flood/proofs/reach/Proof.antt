@@ -3,9 +3,7 @@ use Prim.Native.Nat.{_+_, _*_, _-_}
 use lib.ListN.{set, getD, length}
 use borrow.Rule.Slice.PartMut.{same-len-mid}
 use native.Mathlib.Omega.{arith}
-use mathlib.Core.Logic.{inl, inr, ⊎-elim}
-use mathlib.Core.Path.{_≡_, refl, sym, _∙_, ap}
-use mathlib.Core.Bool.{true≢false}
+use mathlib.Core.Path.{_∙_}
 use Rattle.grid_laws.proofs.Parts.{tail-set}
 use lib.ListN.{length-set, length-take, length-drop}
 use borrow.Author.Needs.{needs}

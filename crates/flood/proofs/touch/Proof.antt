@@ -1,7 +1,5 @@
-use native.Mathlib.Omega.{arith}
-use mathlib.Core.Logic.{inl, inr, ⊎-elim}
-use mathlib.Core.Path.{_≡_, refl, sym, _∙_, ap}
-use mathlib.Core.Bool.{true≢false}
+use mathlib.Core.Logic.{inl}
+use mathlib.Core.Path.{refl}
 use Rattle.flood.proofs.Halves.{wanted-low, touch-yes}
 use borrow.Author.Tests.{not-true, not-false}
 use borrow.Author.Needs.{needs}

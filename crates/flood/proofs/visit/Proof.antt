@@ -1,7 +1,6 @@
 -- A void, a reached cell and one that does not opened are passed over; any other is reached, and the queue emptied.
 use native.Mathlib.Omega.{arith}
-use Prim.Native.Nat.{ℕ, _+_, _-_, _*_, _/_, _%_, _≤_, _<_}
-use mathlib.Core.Path.{_≡_, refl, sym, _∙_, ap}
+use mathlib.Core.Path.{refl}
 use Rattle.flood.proofs.Halves.{cell-on, visit-cell, visit-void, visit-reached, visit-closed, visit-room, visit-first, visit-end}
 use borrow.Author.Tests.{not-true, not-false}
 use borrow.Author.Needs.{needs}

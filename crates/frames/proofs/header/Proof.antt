@@ -1,5 +1,5 @@
 -- `frames::header`: two numbers of 4 digits and a line feed, one run after the other.
-use mathlib.Core.Path.{_≡_, refl, _∙_}
+use mathlib.Core.Path.{_∙_}
 use lib.ListN.{length-set}
 use Rattle.grid.specs.Frames.{headerText}
 use Rattle.text_lines.proofs.Lines.{put-put, put-line-feed}

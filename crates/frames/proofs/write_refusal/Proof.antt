@@ -1,6 +1,5 @@
 -- `frames::write_refusal`: three numbers and a line feed, one run after the other.
-use mathlib.Core.Path.{_≡_, refl, _∙_}
-use native.Mathlib.Omega.{arith}
+use mathlib.Core.Path.{_∙_}
 use lib.ListN.{length-set}
 use Rattle.frames.proofs.Outputs.{refusal-printed}
 use borrow.Author.Needs.{needs}

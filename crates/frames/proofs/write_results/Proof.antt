@@ -1,5 +1,4 @@
 -- `frames::write_results`: the header and the four sheets, one run after the other.
-use native.Mathlib.Omega.{arith}
 use Rattle.frames.proofs.Outputs.{results-printed}
 use borrow.Author.Needs.{needs}
 use Rattle.frames.proofs.write_results.Statement.{statement}

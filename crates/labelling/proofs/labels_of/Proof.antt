@@ -1,6 +1,4 @@
 -- Labels are read off where the walk says that every route ends.
-use Prim.Native.Nat.{ℕ, _+_, _≤_, _<_}
-use mathlib.Core.Path.{_≡_, refl, sym, _∙_}
 use native.Mathlib.Omega.{arith}
 use denote.Ref.{now}
 use Rattle.labelling.proofs.Labelled.{all-end, no-labels, raised, all-labels}

@@ -1,10 +1,8 @@
 -- The labels of the cells passed stand.
-use Prim.Native.Nat.{ℕ, _+_, _-_, _≤_, _<_}
-use mathlib.Core.Path.{_≡_, refl, sym, _∙_, ap, subst}
+use Prim.Native.Nat.{_+_, _-_, _≤_}
+use mathlib.Core.Path.{_≡_, refl, sym, _∙_}
 use native.Mathlib.Omega.{arith}
 use lib.ListN.{length, getD, length-set}
-use borrow.Author.Needs.{needs}
-use denote.Ref.{now}
 use Rattle.grid_laws.proofs.Below.{is-table}
 use Rattle.labelling.proofs.Labelled.{FilledTo, filled-more}
 use Rattle.labelling.proofs.read_labels.Statement.{statement}

@@ -1,8 +1,6 @@
 -- The receivers stand at the front of the tail, and what is said of them is said of the sheet.
-use Prim.Native.Nat.{ℕ, _+_, _*_, _≤_, _<_}
-use mathlib.Core.Path.{_≡_, refl, sym, _∙_}
 use native.Mathlib.Omega.{arith}
-use lib.ListN.{length, drop}
+use lib.ListN.{drop}
 use denote.Ref.{now}
 use Rattle.grid.specs.Sheet.{size}
 use Rattle.labelling.proofs.Sheet.{marks, sheet-labels}

@@ -1,7 +1,6 @@
 -- The next entries are within the columns, since all entries are.
 use borrow.Author.Needs.{needs}
 use mathlib.Core.Path.{refl}
-use Prim.Native.Nat.{_-_}
 use native.Mathlib.Omega.{arith}
 use Rattle.pour_laws.proofs.Columns.{scan-within}
 use Rattle.pour_columns.proofs.write_next.Statement.{statement}

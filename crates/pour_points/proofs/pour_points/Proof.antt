@@ -1,6 +1,5 @@
 -- At each no the columns are as at entry; after the last yes the promise is what `settle` leaves.
 use borrow.Author.Needs.{needs}
-use Prim.Native.Nat.{_-_}
 use lib.ListN.{length}
 use Rattle.checks.proofs.Asked.{says-no, says-yes}
 use Rattle.pour_points.proofs.Promise.{promise-first, promise-lengths, promise-settled, can-scan, one-length-of, first-long}

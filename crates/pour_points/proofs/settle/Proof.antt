@@ -1,6 +1,6 @@
 -- By whether the first batch is full.
 use borrow.Author.Needs.{needs}
-use Prim.Native.Nat.{ℕ, _-_}
+use Prim.Native.Nat.{ℕ}
 use lib.ListN.{length-replicate}
 use Rattle.pour_points.proofs.settle.Statement.{statement}
 use Rattle.pour_points.proofs.settle.Tie as tie

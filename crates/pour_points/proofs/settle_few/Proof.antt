@@ -1,6 +1,5 @@
 -- A batch that is not full has all entries.
 use borrow.Author.Needs.{needs}
-use Prim.Native.Nat.{_-_}
 use Rattle.grid.specs.PourPoints.{pourPoints}
 use Rattle.pour_laws.proofs.Columns.{few-are, few-written, settled-no, settled-yes}
 use Rattle.pour_points.proofs.settle_few.Statement.{statement}

@@ -1,6 +1,5 @@
 -- The entries are counted, and written after a yes.
 use borrow.Author.Needs.{needs}
-use Prim.Native.Nat.{_-_}
 use native.Mathlib.Omega.{arith}
 use Rattle.grid.specs.PourPoints.{pourPoints}
 use Rattle.pour_laws.proofs.Columns.{first-batch, settled-no, settled-yes}

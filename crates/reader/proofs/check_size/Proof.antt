@@ -1,5 +1,5 @@
 -- `reader::check_size`: each return is a case of `sizeCheck`.
-use mathlib.Core.Path.{_≡_, sym, _∙_}
+use mathlib.Core.Path.{sym, _∙_}
 use native.Mathlib.Omega.{arith}
 use borrow.Author.Tests.{not-true, not-false}
 use Rattle.reader.proofs.Gate.{cells-small, too-many-cells, bad-rows, bad-cols, no-room, room-enough}

@@ -1,5 +1,5 @@
 -- `reader::check_text`: each return is a case of `textCheck`.
-use mathlib.Core.Path.{_≡_, sym, _∙_}
+use mathlib.Core.Path.{sym, _∙_}
 use native.Mathlib.Omega.{arith}
 use Rattle.reader.proofs.Gate.{too-long, bad-byte, shaped, not-shaped}
 use borrow.Author.Needs.{needs}

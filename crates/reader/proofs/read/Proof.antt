@@ -1,5 +1,5 @@
 -- `reader::read`: beside a no about the text, beside a no about its rows and columns, and after the last yes.
-use mathlib.Core.Path.{_≡_, sym, ap, _∙_}
+use mathlib.Core.Path.{sym, ap, _∙_}
 use native.Mathlib.Omega.{arith}
 use Rattle.grid.specs.declared.Answer.{Answer}
 use Rattle.reader.proofs.Gate.{text-accepted, size-accepted, text-refused, size-refused, all-read}

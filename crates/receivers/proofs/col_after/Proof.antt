@@ -1,7 +1,6 @@
 -- Columns begin again after the last.
-use Prim.Native.Nat.{ℕ, _+_, _/_, _%_, _≤_, _<_}
-use mathlib.Core.Path.{_≡_, refl, sym, _∙_, ap}
-use native.Mathlib.Omega.{arith}
+use Prim.Native.Nat.{ℕ, _+_}
+use mathlib.Core.Path.{_∙_, ap}
 use Rattle.receivers.proofs.Written.{same-row, next-row}
 use borrow.Author.Needs.{needs}
 use Rattle.receivers.proofs.col_after.Statement.{statement}

@@ -1,6 +1,5 @@
 -- The first that the table has.
 use borrow.Author.Needs.{needs}
-use mathlib.Core.Path.{refl}
 use denote.Ref.{now}
 use Rattle.receivers.proofs.Codes.{first-bad-is}
 use Rattle.receivers.proofs.first_bad_code.Statement.{statement}

@@ -1,13 +1,13 @@
 -- Every byte before the present one is allowed.
 use Prim.Native.Nat.{ℕ, _≤_, _<_, _-_}
-use mathlib.Core.Path.{_≡_, refl, sym, _∙_, ap}
-use mathlib.Core.Bool.{true, false}
+use mathlib.Core.Path.{_≡_, sym, _∙_, ap}
+use mathlib.Core.Bool.{true}
 use mathlib.Core.List.{List}
 use native.Mathlib.Omega.{arith}
 use lib.ListN.{length, getD}
 use borrow.Author.Count.{below-more}
 use denote.Ref.{now}
-use Rattle.receivers.specs.Written.{isAllowed, badTable}
+use Rattle.receivers.specs.Written.{isAllowed}
 use Rattle.receivers.proofs.Codes.{bad-yes, bad-no}
 use Rattle.receivers.proofs.first_in.Statement.{statement}
 use Rattle.receivers.proofs.first_in.Tie as tie

@@ -1,8 +1,5 @@
 -- The mark by its three tests.
-use Prim.Native.Nat.{ℕ, _+_, _*_, _≤_, _<_, _^_}
-use mathlib.Core.Path.{_≡_, refl, sym, _∙_, ap}
 use native.Mathlib.Omega.{arith}
-use lib.ListN.{getD}
 use borrow.Author.Needs.{needs}
 use denote.Ref.{now}
 use Rattle.receivers.proofs.Codes.{position-small, mark-zero, mark-off, mark-stop, mark-on}

@@ -1,8 +1,5 @@
 -- The mark by its three tests.
-use Prim.Native.Nat.{ℕ, _+_, _*_, _-_, _/_, _%_, _≤_, _<_, _^_}
-use mathlib.Core.Path.{_≡_, refl, sym, _∙_, ap, subst}
 use native.Mathlib.Omega.{arith}
-use lib.ListN.{length, getD, take, set, length-set}
 use borrow.Author.Needs.{needs}
 use denote.Ref.{now}
 use Rattle.receivers.proofs.Codes.{copy-zero, copy-position, copy-byte, copy-off, copy-stop, copy-on}

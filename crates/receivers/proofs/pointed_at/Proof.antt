@@ -1,10 +1,9 @@
 -- Within the border the neighbour lies at the table's distance; on it, row and column decide.
-use Prim.Native.Nat.{ℕ, _+_, _*_, _-_, _/_, _%_, _≤_, _<_, _^_}
-use mathlib.Core.Path.{_≡_, refl, sym, _∙_, ap}
+use mathlib.Core.Path.{_∙_, ap}
 use native.Mathlib.Omega.{arith}
 use lib.ListN.{getD}
 use denote.Ref.{now}
-use Rattle.grid.specs.Sheet.{size, positionOf, neighbour}
+use Rattle.grid.specs.Sheet.{positionOf, neighbour}
 use Rattle.cells.proofs.Steps.{place-small}
 use Rattle.receivers.proofs.Codes.{Reached, reached}
 use borrow.Author.Needs.{needs}

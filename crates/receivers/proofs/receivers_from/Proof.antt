@@ -1,9 +1,7 @@
 -- The table is made, and all marks are written.
-use Prim.Native.Nat.{ℕ, _+_, _*_, _≤_, _<_, _^_}
-use mathlib.Core.Path.{_≡_, refl}
+use Prim.Native.Nat.{_≤_}
 use native.Mathlib.Nat.{mul-comm, le-mul-of-pos-right}
 use native.Mathlib.Omega.{arith}
-use lib.ListN.{take}
 use denote.Ref.{now}
 use Rattle.grid.specs.Sheet.{size}
 use Rattle.receivers.proofs.Written.{written-front}

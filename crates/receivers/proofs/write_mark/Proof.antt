@@ -1,9 +1,7 @@
 -- One store of the mark.
-use Prim.Native.Nat.{ℕ, _+_, _*_, _-_, _/_, _%_, _≤_, _<_, _^_}
-use mathlib.Core.Path.{_≡_, refl, sym, _∙_, ap, subst}
+use mathlib.Core.Path.{ap}
 use native.Mathlib.Omega.{arith}
-use lib.ListN.{length, getD, take, set, length-set}
-use borrow.Author.Needs.{needs}
+use lib.ListN.{set, length-set}
 use denote.Ref.{now}
 use Rattle.receivers.proofs.write_mark.Statement.{statement}
 use Rattle.receivers.proofs.write_mark.Tie as tie

@@ -1,17 +1,15 @@
 -- The marks of the cells passed stand; row and column are those of the present cell.
-use Prim.Native.Nat.{ℕ, _+_, _*_, _-_, _/_, _%_, _≤_, _<_, _^_}
-use mathlib.Core.Path.{_≡_, refl, sym, _∙_, ap, subst}
+use Prim.Native.Nat.{ℕ, _+_, _-_, _/_, _%_, _≤_}
+use mathlib.Core.Path.{_≡_, sym, subst}
 use native.Mathlib.Omega.{arith}
-use lib.ListN.{length, getD, take, set, length-set}
 use borrow.Author.Needs.{needs}
 use denote.Ref.{now}
 use mathlib.Core.List.{List}
 use native.Mathlib.Nat.{mod-lt, mod-le, div-le-self}
 use Rattle.grid.specs.Sheet.{size}
 use Rattle.grid_laws.proofs.Neighbours.{cols-positive}
-use Rattle.route_laws.specs.Receivers.{receiverMark, AllCodes}
 use Rattle.receivers.specs.Written.{WrittenTo}
-use Rattle.receivers.proofs.Written.{written-none, written-more, same-front}
+use Rattle.receivers.proofs.Written.{written-none, written-more}
 use Rattle.receivers.proofs.write_marks.Statement.{statement}
 use Rattle.receivers.proofs.write_marks.Tie as tie
 

@@ -1,8 +1,8 @@
 -- `text_checks::feeds_end_lines`: every byte before the place is right.
-use mathlib.Core.Path.{_≡_, sym, _∙_}
-use Prim.Native.Nat.{ℕ, _+_, _-_, _≤_, _<_}
+use mathlib.Core.Path.{sym, _∙_}
+use Prim.Native.Nat.{_-_, _≤_}
 use native.Mathlib.Omega.{arith}
-use lib.ListN.{length, getD}
+use lib.ListN.{length}
 use borrow.Author.Count.{below-none, below-more}
 use Rattle.text_checks.proofs.Bytes.{PlacedTo, all-placed, one-misplaced}
 use Rattle.text_checks.proofs.feeds_end_lines.Statement.{statement}

@@ -1,5 +1,5 @@
 -- `text_checks::header`: the second number is read where the first ends.
-use mathlib.Core.Path.{_≡_, ap, _∙_}
+use mathlib.Core.Path.{ap, _∙_}
 use Rattle.grid.specs.Frames.{number4}
 use Rattle.text_checks.proofs.Bytes.{header-grid}
 use borrow.Author.Needs.{needs}

@@ -1,5 +1,5 @@
 -- `text_checks::is_placed`: a line feed, or another byte.
-use mathlib.Core.Path.{_≡_, sym, ap, _∙_}
+use mathlib.Core.Path.{sym, ap, _∙_}
 use mathlib.Core.Bool.{not}
 use Rattle.text_checks.proofs.Bytes.{placed-feed, placed-digit}
 use borrow.Author.Needs.{needs}

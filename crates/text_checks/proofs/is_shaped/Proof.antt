@@ -1,5 +1,5 @@
 -- `text_checks::is_shaped`: each return is a case of `isShaped`.
-use mathlib.Core.Path.{_≡_, sym, _∙_}
+use mathlib.Core.Path.{sym, _∙_}
 use native.Mathlib.Omega.{arith}
 use Rattle.text_checks.proofs.Bytes.{too-short, wrong-length, right-length, announced-small}
 use borrow.Author.Needs.{needs}

@@ -1,5 +1,5 @@
 -- `text_checks::is_text_byte`: a digit, or else the line feed.
-use mathlib.Core.Path.{_≡_, sym}
+use mathlib.Core.Path.{sym}
 use Rattle.text_checks.proofs.Bytes.{digit-fits, no-digit-fits}
 use borrow.Author.Needs.{needs}
 use Rattle.text_checks.proofs.is_text_byte.Statement.{statement}

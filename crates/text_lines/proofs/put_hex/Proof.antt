@@ -1,12 +1,11 @@
 -- `text_lines::put_hex`: what is stored, with the digits that are left stored too, is the whole number.
 use mathlib.Core.Path.{_≡_, refl, sym, ap, _∙_}
 use mathlib.Core.List.{List}
-use Prim.Native.Nat.{ℕ, suc, _+_, _-_, _/_, _%_, _≤_, _<_}
+use Prim.Native.Nat.{ℕ, suc, _+_, _-_, _/_, _≤_}
 use native.Mathlib.Omega.{arith}
 use lib.ListN.{length, set, length-set}
 use lib.Seq.{sets}
-use borrow.Author.Needs.{needs}
-use Rattle.grid.specs.Frames.{upperDigit, hexText}
+use Rattle.grid.specs.Frames.{hexText}
 use Rattle.text_laws.proofs.Digits.{length-hex, last-digit, no-digit}
 use Rattle.text_lines.proofs.put_hex.Statement.{statement}
 use Rattle.text_lines.proofs.put_hex.Tie as tie

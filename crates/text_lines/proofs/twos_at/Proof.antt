@@ -4,7 +4,7 @@ use mir.Syntax.{w16}
 use mir.Facts.{toZ-ofZ}
 use mir.Val.{toZ, ofZ}
 use native.Mathlib.Omega.{arith}
-use lib.IntN.{ℤ, pos}
+use lib.IntN.{pos}
 use lib.ListN.{getD}
 use borrow.Author.Needs.{needs, sfits-of}
 use Rattle.grid.specs.Frames.{toTwos}

@@ -1,6 +1,6 @@
 -- `text_sheet::read_lines`: r lines of the sheet are stored.
-use mathlib.Core.Path.{_≡_, refl, _∙_}
-use Prim.Native.Nat.{ℕ, _+_, _-_, _*_, _≤_, _<_}
+use mathlib.Core.Path.{_≡_}
+use Prim.Native.Nat.{_+_, _-_, _*_, _≤_}
 use native.Mathlib.Omega.{arith}
 use Rattle.text_laws.proofs.Runs.{one-more-fits}
 use Rattle.text_sheet.proofs.Cells.{LinesTo, lines-none, lines-more, lines-end}

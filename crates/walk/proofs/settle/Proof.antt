@@ -1,9 +1,5 @@
 -- Writing down: each place written lay on the walk and had no result. The measure is the number of places that have none.
-use Prim.Native.Nat.{_≤_, _<_, _+_, _-_}
-use mathlib.Core.Path.{refl, sym, _∙_}
 use native.Mathlib.Omega.{arith}
-use lib.ListN.{length}
-use borrow.Author.Needs.{needs}
 use denote.Ref.{now}
 use Rattle.route_laws.specs.Walking.{Settling}
 use Rattle.route_laws.proofs.Walking.{freePlaces, fewer-free, settling-none, settling-more, settled-off, settled-met}

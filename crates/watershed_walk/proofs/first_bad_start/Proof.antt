@@ -1,15 +1,14 @@
 -- No start before the present cell is stray.
-use Prim.Native.Nat.{ℕ, _+_, _-_, _*_, _≤_, _<_}
-use mathlib.Core.Path.{_≡_, refl, sym, _∙_, ap, subst}
+use Prim.Native.Nat.{ℕ, _-_, _≤_, _<_}
+use mathlib.Core.Path.{_≡_, sym, _∙_}
 use native.Mathlib.Omega.{arith}
-use lib.ListN.{length, getD, take, drop, set, length-set}
+use lib.ListN.{length, getD}
 use borrow.Author.Needs.{needs}
 use denote.Ref.{now}
-use mathlib.Core.Bool.{Bool, true, false, _&&_}
+use mathlib.Core.Bool.{false, _&&_}
 use lib.Dec.{eqb, ltb}
-use borrow.Author.Tests.{eq-eqb, ne-eqb}
 use borrow.Author.Count.{below-more}
-use Rattle.watershed_walk.proofs.Asking.{FirstStray, first-stray-is}
+use Rattle.watershed_walk.proofs.Asking.{first-stray-is}
 use Rattle.watershed_walk.proofs.first_bad_start.Statement.{statement}
 use Rattle.watershed_walk.proofs.first_bad_start.Tie as tie
 

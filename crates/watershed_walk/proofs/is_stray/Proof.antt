@@ -1,14 +1,9 @@
 -- Both tests.
-use Prim.Native.Nat.{ℕ, _+_, _-_, _*_, _≤_, _<_}
-use mathlib.Core.Path.{_≡_, refl, sym, _∙_, ap, subst}
-use native.Mathlib.Omega.{arith}
-use lib.ListN.{length, getD, take, drop, set, length-set}
-use borrow.Author.Needs.{needs}
-use denote.Ref.{now}
-use mathlib.Core.Bool.{Bool, true, false, _&&_}
-use lib.Dec.{eqb, ltb}
+use mathlib.Core.Path.{sym, ap}
+use mathlib.Core.Bool.{Bool, _&&_}
+use lib.Dec.{ltb}
 use borrow.Author.Tests.{eq-eqb, ne-eqb}
-use Rattle.grid_laws.proofs.Tests.{and-false-left, and-true}
+use Rattle.grid_laws.proofs.Tests.{and-false-left}
 use Rattle.watershed_walk.proofs.is_stray.Statement.{statement}
 use Rattle.watershed_walk.proofs.is_stray.Tie as tie
 

@@ -1,10 +1,8 @@
 -- The watersheds of the cells passed stand.
-use Prim.Native.Nat.{ℕ, _+_, _-_, _*_, _≤_, _<_}
-use mathlib.Core.Path.{_≡_, refl, sym, _∙_, ap, subst}
+use Prim.Native.Nat.{_+_, _-_, _≤_}
+use mathlib.Core.Path.{_≡_, sym, _∙_}
 use native.Mathlib.Omega.{arith}
-use lib.ListN.{length, getD, take, drop, set, length-set}
-use borrow.Author.Needs.{needs}
-use denote.Ref.{now}
+use lib.ListN.{length, getD, length-set}
 use Rattle.grid_laws.proofs.Below.{is-table}
 use Rattle.route_laws.specs.Starts.{startOf}
 use Rattle.labelling.proofs.Labelled.{FilledTo, filled-more}

@@ -1,8 +1,6 @@
 -- Receivers, cut at starts, walked, and read: the law of watersheds.
-use Prim.Native.Nat.{ℕ, _+_, _-_, _*_, _≤_, _<_}
-use mathlib.Core.Path.{_≡_, refl, sym, _∙_, ap, subst}
+use mathlib.Core.Path.{_∙_}
 use native.Mathlib.Omega.{arith}
-use lib.ListN.{length, getD, take, drop, set, length-set}
 use borrow.Author.Needs.{needs}
 use denote.Ref.{now}
 use Rattle.watershed_walk.proofs.Cutting.{marks-cut, raised, watersheds-read}
