@@ -22,7 +22,7 @@ use Rattle.grid_laws.proofs.Order.{eqZ-eq}
 use Rattle.grid_laws.proofs.Cells.{on-sheet, void-no-data}
 use Rattle.cells.specs.Keys.{keyOf, levelOf}
 use Rattle.cells.proofs.Keys.{Known, known-read, level-key, key-level, key-void, level-void}
-use Rattle.flow_laws.specs.Words.{levelIn, Room}
+use Rattle.flow_laws.specs.Words.{levelIn}
 use Rattle.flow_laws.proofs.Equals.{is-equal, equal-height}
 use Rattle.flow_laws.proofs.Agree.{equal-on-sheet}
 use Rattle.flow_laws.proofs.Words.{level-one, word-one}
@@ -57,9 +57,6 @@ data-positive e c r q v d = go (decLt 0 r)
     go : Dec (0 < r) → 0 < r
     go (yes h) = h
     go (no f) = true-false d (zero-no-data e c r q v (omega arith))
-
-pub room-over : (e : List ℤ) (n tail : ℕ) (work : List ℕ) → length e ≡ n → Room n work tail → Room (length e) work tail
-room-over e n tail work q R m h z = let r = R m (omega arith) z in omega arith
 
 -- ---- an equal neighbour of level 0
 -- of the positions before p that have one, `found` is one, and there is none where it is 8

@@ -1,6 +1,6 @@
 -- The look at the eight neighbours of the queue's first.
 use mathlib.Core.Path.{_≡_, refl, sym, _∙_, ap, subst}
-use mathlib.Core.Bool.{Bool, true}
+use mathlib.Core.Bool.{Bool, true, false}
 use mathlib.Core.Logic.{inl, inr, ⊎-elim}
 use mathlib.Core.List.{List}
 use Prim.Native.Nat.{ℕ, suc, _+_, _/_, _%_, _≤_, _<_}
@@ -10,9 +10,8 @@ use lib.Seq.{getD-take}
 use lib.IntN.{ℤ}
 use Rattle.grid.specs.declared.Grid.{Grid}
 use Rattle.grid.specs.Sheet.{size, void, at, isData, eqZ, neighbour}
-use Rattle.grid.specs.Directions.{isEqual}
+use Rattle.grid.specs.Directions.{isEqual, isLevelZero}
 use Rattle.grid_laws.proofs.Cells.{on-sheet}
-use Rattle.cells.specs.Keys.{levelOf}
 use Rattle.cells.specs.Steps.{Inner}
 use Rattle.flow_laws.specs.Search.{Equal}
 use Rattle.flow_laws.specs.Words.{wordLevel, levelIn, queueIn, Searching}
@@ -22,7 +21,7 @@ use Rattle.flow_laws.proofs.Agree.{equal-on-sheet}
 use Rattle.flow_laws.proofs.Words.{level-none, level-up, level-here, word-more, word-some, word-other}
 use Rattle.flow_laws.proofs.Words.{queue-first, marked, searching-room}
 use Rattle.levels.specs.Touched.{Touched}
-use Rattle.levels.proofs.Within.{other-within}
+use Rattle.levels.proofs.Within.{other-flat, other-within, within-data, flat-alike}
 
 -- cells of one elevation are data or void together
 pub alike-data : (e : List ℤ) (c d : ℕ) → at e d ≡ at e c → isData e c ≡ true → isData e d ≡ true
@@ -145,12 +144,23 @@ module _ (g : Grid) (e : List ℤ) (len : length e ≡ size g) (half : ℕ) (wor
               let r = up in
               omega arith
 
-    pub spreading-more : {work′ : List ℕ} {m r : ℕ} (k : ℕ) → size g ≤ half → half + size g ≤ length work → p < 8
-        → m ≡ neighbour g x p → at e x ≡ levelOf k → Touched e half work work′ k word tail m r
-        → Spreading g e half work′ head r x word (p + 1)
-    spreading-more {work′} {m} {r} k hn hl hp q s (inl (a, b, f)) = rw (a, b) (spreading-passed (rw (q, sym s) at f))
-    spreading-more {work′} {m} {r} k hn hl hp q s (inr (a, b, h, z)) =
-        rw (a, b, q) (spreading-marked hn hl hp (rw (q, sym s) at h) (rw q at z))
+    -- a neighbour without a level is equal
+    unmarked-alike : p < 8 → neighbour g x p < size g → getD work (neighbour g x p) 0 ≡ 0 → at e (neighbour g x p) ≡ at e x
+    unmarked-alike hp on none = flat-alike g e len x p x-on hp on x-data (within-data g e len x p x-on x-data hp x-flat) x-flat m-flat
+      where
+        x-flat : isLevelZero g e x ≡ false
+        x-flat = other-flat g e x x-on half work (P .searching) (λ one. let h = x-high in omega arith)
+
+        m-flat : isLevelZero g e (neighbour g x p) ≡ false
+        m-flat =
+            let z = level-none _ (getD-take (size g) work (neighbour g x p) 0 on ∙ none) in
+            other-flat g e (neighbour g x p) on half work (P .searching) (λ one. omega arith)
+
+    pub spreading-more : {work′ : List ℕ} {m r : ℕ} → size g ≤ half → half + size g ≤ length work → p < 8
+        → m ≡ neighbour g x p → m < size g → Touched half work work′ word tail m r → Spreading g e half work′ head r x word (p + 1)
+    spreading-more {work′} {m} {r} hn hl hp q on (inl (a, b, f)) = rw (a, b) (spreading-passed (λ s. rw q at f))
+    spreading-more {work′} {m} {r} hn hl hp q on (inr (a, b, z)) =
+        rw (a, b, q) (spreading-marked hn hl hp (unmarked-alike hp (rw q at on) (rw q at z)) (rw q at z))
 
     pub spreading-end : 8 ≤ p → Searching g e half work (size g) (head + 1) tail
     spreading-end h =

@@ -14,7 +14,7 @@ ghost use Rattle.grid.specs.Sheet.{size, at, neighbour};
 ghost use Rattle.grid.specs.Directions.{isEqual};
 ghost use Rattle.cells.specs.Keys.{levelOf};
 ghost use Rattle.cells.specs.Steps.{Inner};
-ghost use Rattle.flow_laws.specs.Words.{levelIn, Seeded, Searching, Joining, Levelled, Room};
+ghost use Rattle.flow_laws.specs.Words.{levelIn, Seeded, Searching, Joining, Levelled};
 ghost use Rattle.levels.specs.Touched.{Touched};
 
 // Puts a cell at the end of the queue.
@@ -40,37 +40,21 @@ fn mark(half: usize, tail: usize, m: usize, word: u32, work: &mut [u32]) -> usiz
     push(&mut work[half..], tail, m)
 }
 
-// Marks and queues the cell `m` if it has no word and the elevation of the key `k`. Both are read before either is tested, so that the
-// compiler can join the tests.
-fn touch(
-    elevations: &[i16],
-    half: usize,
-    k: u32,
-    word: u32,
-    tail: usize,
-    m: usize,
-    work: &mut [u32],
-) -> usize
-    requires { ⌜ length (now elevations) < 2 ^ 24 ⌝ }
-    requires { ⌜ length (now elevations) ≤ half ⌝ }
-    requires { ⌜ half + length (now elevations) ≤ length (now work) ⌝ }
-    requires { ⌜ m < length (now elevations) ⌝ }
-    requires { ⌜ 0 < k ⌝ }
-    requires { ⌜ Room (length (now elevations)) (now work) tail ⌝ }
-    ensures { λ r. ⌜ Touched (now (elevations .entry)) half (now (work .entry)) (now (work .exit)) k word tail m r ⌝ }
+// Marks and queues the cell `m` if it has no word.
+fn touch(half: usize, word: u32, tail: usize, m: usize, work: &mut [u32]) -> usize
+    requires { ⌜ m < 2 ^ 24 ⌝ }
+    requires { ⌜ m < length (now work) ⌝ }
+    requires { ⌜ (getD (now work) m 0 ≡ 0 → half + tail < length (now work)) ⌝ }
+    ensures { λ r. ⌜ Touched half (now (work .entry)) (now (work .exit)) word tail m r ⌝ }
 {
-    let own = key(elevations[m]);
-    let has = work[m];
-    if has != 0 {
-        return tail;
-    }
-    if own != k {
+    if work[m] != 0 {
         return tail;
     }
     mark(half, tail, m, word, work)
 }
 
-// Gives the next level to the equal neighbours of the queue's cell at `head` that have none.
+// Gives the next level to the equal neighbours of the queue's cell at `head` that have none. A cell without a drop has no lower neighbour, so
+// two such neighbours are equal: no elevation is read, and the elevations stand here for the contract.
 fn spread(
     g: Grid,
     elevations: &[i16],
@@ -89,12 +73,11 @@ fn spread(
 {
     let cell = work[half + head] as usize;
     let word = work[cell] + 1;
-    let k = key(elevations[cell]);
     let mut end = tail;
     let mut p: usize = 0;
     while p < 8 {
         let m = beside(g, cell, p);
-        end = touch(elevations, half, k, word, end, m, work);
+        end = touch(half, word, end, m, work);
         p += 1;
     }
     end

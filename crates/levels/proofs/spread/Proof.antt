@@ -2,21 +2,18 @@ use mathlib.Core.Path.{_≡_, refl, _∙_}
 use Prim.Native.Nat.{ℕ, _+_, _-_, _≤_, _<_}
 use native.Mathlib.Omega.{arith}
 use lib.ListN.{length, getD}
-use borrow.Author.Needs.{needs, sfits-of}
 use Rattle.grid.specs.Sheet.{size, at}
-use Rattle.cells.proofs.Keys.{Known}
 use Rattle.flow_laws.proofs.Words.{searching-most, searching-room, searching-small}
-use Rattle.levels.proofs.Keyed.{key-read, agrees, data-positive, room-over}
-use Rattle.levels.proofs.Spreading.{Spreading, first-on, first-data, first-within, spreading-none, spreading-more, spreading-end}
+use Rattle.levels.proofs.Spreading.{Spreading, first-on, first-within, spreading-none, spreading-more, spreading-end}
 use Rattle.levels.proofs.spread.Statement.{statement}
 use Rattle.levels.proofs.spread.Tie as tie
 
 abbrev Inv-loop : tie.InvT-loop
-Inv-loop g elevations half head tail work₀ cell word k end₀ p₀ work end p =
+Inv-loop g elevations half head tail work₀ cell word end₀ p₀ work end p =
     (p ≤ 8) × (length work ≡ length work₀) × Spreading g elevations half work head end cell word p
 
 abbrev μ-loop : tie.MeasureT-loop
-μ-loop g elevations half head tail work₀ cell word k end₀ p₀ work end p = 8 - p
+μ-loop g elevations half head tail work₀ cell word end₀ p₀ work end p = 8 - p
 
 most : (s : tie.Start Inv-loop μ-loop) → s .args .head < size (s .args .g)
 most s =
@@ -34,15 +31,8 @@ on s =
     first-on (a .g) (a .elevations .now) (s .pre .0) (a .half) (a .work .now) (a .head) (a .tail) (s .pre .1 .1 .1 .1 .1)
     (s .pre .1 .1 .1 .1 .0)
 
-abbrev start : tie.After-key Inv-loop μ-loop → tie.Start Inv-loop μ-loop
-start c = c .before .before .before .before .before
-
-own : (c : tie.After-key Inv-loop μ-loop) → Known (c .key .result) (at (start c .args .elevations .now) (first (start c)))
-own c =
-    let s = start c in
-    let len = s .pre .0 in
-    let fits = sfits-of (c .before .key-arg .given) in
-    key-read (s .args .elevations .now) (first s) (c .key .result) (omega (arith, on s)) fits (c .key .ensures)
+abbrev start : tie.At-loop Inv-loop μ-loop → tie.Start Inv-loop μ-loop
+start c = c .before .before .before .before
 
 add-cell : tie.Need-add-cell Inv-loop μ-loop
 add-cell c = omega (arith, most (c .before))
@@ -70,18 +60,9 @@ add-word c =
     searching-small (a .g) (a .elevations .now) (s .pre .0) (a .half) (a .work .now) (s .pre .1 .1 .1 .1 .1) (first s) (on s) in
     omega arith
 
-mul-key : tie.Need-mul-key Inv-loop μ-loop
-mul-key c = omega (arith, on (c .before .before .before))
-
-shared-slice-copy-out-key : tie.Need-shared-slice-copy-out-key Inv-loop μ-loop
-shared-slice-copy-out-key c = omega (arith, on (c .before .before .before))
-
-key-requires : tie.Need-key-requires Inv-loop μ-loop
-key-requires c κs = search needs
-
 loop-holds : tie.Need-loop-holds Inv-loop μ-loop
 loop-holds c =
-    let s = start c in
+    let s = c .before .before .before in
     let a = s .args in (
       omega arith,
       refl,
@@ -91,7 +72,7 @@ loop-holds c =
 
 beside-requires : tie.Need-beside-requires Inv-loop μ-loop
 beside-requires c κs =
-    let s = start (c .before .before) in
+    let s = start (c .before) in
     let a = s .args in
     let inner =
     first-within (a .g) (a .elevations .now) (s .pre .0) (a .half) (a .work .now) (a .head) (a .tail) (s .pre .1 .1 .1 .1 .1)
@@ -101,23 +82,16 @@ beside-requires c κs =
 touch-requires : tie.Need-touch-requires Inv-loop μ-loop
 touch-requires c κs =
     let near = c .before .beside .ensures .1 in
-    let l = c .before .before .before .loop in
-    let key = c .before .before .before .before in
-    let s = start key in
+    let at = c .before .before .before in
+    let l = at .loop in
+    let s = start at in
     let a = s .args in
-    let e = a .elevations .now in
-    let held =
-    first-data (a .g) e (s .pre .0) (a .half) (a .work .now) (a .head) (a .tail) (s .pre .1 .1 .1 .1 .1) (s .pre .1 .1 .1 .1 .0) in
-    let some = data-positive e (first s) (key .key .result) (own key .0) (own key .1 .1 .0) held in
     let same = l .inv .1 in
-    let len = s .pre .0 in
     let small = s .pre .1 .0 in
     let under = s .pre .1 .1 .0 in
     let fits = s .pre .1 .1 .1 .0 in
-    let room =
-    room-over e (size (a .g)) (l .end) (l .work) (s .pre .0)
-    (searching-room (a .g) e (s .pre .0) (a .half) (l .work) (l .inv .2 .searching)) in
-    (omega arith, (omega arith, (omega arith, (omega arith, (some, room)))))
+    let room = searching-room (a .g) (a .elevations .now) (s .pre .0) (a .half) (l .work) (l .inv .2 .searching) in
+    (omega arith, (omega arith, λ z. let r = room (c .before .beside .result) near z in omega arith))
 
 add-p : tie.Need-add-p Inv-loop μ-loop
 add-p c = omega arith
@@ -130,17 +104,16 @@ loop-again c =
     let t = c .before .before .touch in
     let n = c .before .before .before .before .beside in
     let test = c .before .before .before .before .before .loop-test .taken in
-    let l = c .before .before .before .before .before .before .loop in
-    let key = c .before .before .before .before .before .before .before in
-    let s = start key in
+    let at = c .before .before .before .before .before .before in
+    let l = at .loop in
+    let s = start at in
     let a = s .args in
     let same = l .inv .1 in
-    let fits = s .pre .1 .1 .1 .0 in
-    let height = agrees (key .key .result) (key .key .result) (own key .0) (own key .1 .1 .0) refl in (
+    let fits = s .pre .1 .1 .1 .0 in (
       omega arith,
-      t .kept .1 .1 .1 .1 .1 .1 .0 ∙ l .inv .1,
+      t .kept .1 .1 .1 .1 .0 ∙ l .inv .1,
       spreading-more (a .g) (a .elevations .now) (s .pre .0) (a .half) (l .work) (a .head) (l .end) _ _ (l .p) (l .inv .2)
-          (key .key .result) (s .pre .1 .1 .0) (omega arith) test (n .ensures .0) height (t .ensures),
+          (s .pre .1 .1 .0) (omega arith) test (n .ensures .0) (n .ensures .1) (t .ensures),
     )
 
 same-length : tie.Need-same-length Inv-loop μ-loop
@@ -149,7 +122,7 @@ same-length c = c .before .loop .inv .1
 returns : tie.Need-returns Inv-loop μ-loop
 returns c =
     let l = c .before .loop in
-    let s = start (c .before .before) in
+    let s = start (c .before) in
     let a = s .args in
     spreading-end (a .g) (a .elevations .now) (s .pre .0) (a .half) (l .work) (a .head) (l .end) _ _ (l .p) (l .inv .2)
     (c .loop-test .left)
@@ -167,9 +140,6 @@ spread-spec =
     mul-word
     slice-read-word
     add-word
-    mul-key
-    shared-slice-copy-out-key
-    key-requires
     loop-holds
     beside-requires
     touch-requires
