@@ -105,7 +105,6 @@ static void sheet_round(const char *name, sheet_call<In, Out> call, Said said, c
 }
 static Reply said_counts(const Desc &d, const V<u8> &c, V<u32> &out, u64 work) { return call_counts(d.rows, d.cols, c, out, work); }
 static Reply said_labels(const Desc &d, const V<u8> &c, V<u32> &out, u64 work) { return call_labels(d.rows, d.cols, c, out, work); }
-#ifdef HAVE_WATERSHEDS
 static void watersheds_round(const Desc &d, const V<u8> &c0, gen::Rng &g, Lengths len, u64 round) {
   V<u8> c = resized(c0, len.of(c0.size()));
   V<u32> s(len.of(c0.size()));
@@ -120,8 +119,6 @@ static void watersheds_round(const Desc &d, const V<u8> &c0, gen::Rng &g, Length
   same_list("watersheds", "the watersheds", out, want, round);
   same_work("watersheds", a.number, work, round);
 }
-#endif
-#ifdef HAVE_STARTS
 static void starts_round(const Desc &d, const V<u8> &c0, gen::Rng &g, Lengths len, u64 round) {
   V<u8> c = resized(c0, len.of(c0.size()));
   V<u32> n(len.of(c0.size()));
@@ -139,8 +136,6 @@ static void starts_round(const Desc &d, const V<u8> &c0, gen::Rng &g, Lengths le
   same_list("starts", "the starts", out, want, round);
   same_work("starts", a.number, work, round);
 }
-#endif
-#ifdef HAVE_POUR_POINTS
 static void pour_points_round(const Desc &d, const V<i16> &e0, gen::Rng &g, Lengths len, u64 round) {
   V<i16> e = resized(e0, len.of(e0.size()));
   V<u32> l(len.of(e0.size()));
@@ -165,8 +160,6 @@ static void pour_points_round(const Desc &d, const V<i16> &e0, gen::Rng &g, Leng
   same_list("pour_points", "the elevations", z, wz, round);
   same_list("pour_points", "the cells", c, wc, round);
 }
-#endif
-#ifdef HAVE_DRAIN
 static void drain_round(const Desc &d, const V<i16> &e0, Lengths len, u64 round) {
   V<i16> e = resized(e0, len.of(e0.size()));
   Lent<i16> f(len.of(e0.size()));
@@ -187,8 +180,6 @@ static void drain_round(const Desc &d, const V<i16> &e0, Lengths len, u64 round)
   same_list("drain", "the labels", l, want.labels, round);
   same_work("drain", a.number, work, round);
 }
-#endif
-#ifdef HAVE_READ
 static void read_round(const std::string &t, gen::Rng &g, u64 round) {
   Lent<i16> out(g.chance(70) ? 2304 : g.below(2400));
   V<i16> want = out.list();
@@ -199,7 +190,6 @@ static void read_round(const std::string &t, gen::Rng &g, u64 round) {
     fail("read", "rows and columns", round);
   same_list("read", "the sheet", out, want, round);
 }
-#endif
 
 // codes: random, from a sheet, or those with a ring or a bad byte
 static V<u8> some_codes(gen::Rng &g, const Desc &d, const V<i16> &e) {
@@ -242,40 +232,20 @@ static int rounds(u64 count, u64 seed) {
     Lengths len{g, g.chance(20)};
     V<i16> filled = oracle::fill(d, s.e);
     V<u8> codes = some_codes(g, d, s.e);
-    (void)filled;
     d.rows = len.side(d.rows);
     d.cols = len.side(d.cols);
-#ifdef HAVE_FILL
     sheet_round("fill", tervuola_fill, call_fill, d, s.e, len, i);
-#endif
-#ifdef HAVE_DIRECTIONS
     sheet_round("directions", tervuola_directions, call_directions, d, s.e, len, i);
     sheet_round("directions", tervuola_directions, call_directions, d, filled, len, i);
-#endif
-#ifdef HAVE_COUNTS
     sheet_round("counts", tervuola_counts, said_counts, d, codes, len, i);
-#endif
-#ifdef HAVE_LABELS
     sheet_round("labels", tervuola_labels, said_labels, d, codes, len, i);
-#endif
-#ifdef HAVE_WATERSHEDS
     watersheds_round(d, codes, g, len, i);
-#endif
-#ifdef HAVE_STARTS
     starts_round(d, codes, g, len, i);
-#endif
-#ifdef HAVE_POUR_POINTS
     pour_points_round(d, s.e, g, len, i);
-#endif
-#ifdef HAVE_DRAIN
     drain_round(d, s.e, len, i);
-#endif
-#ifdef HAVE_READ
     read_round(gen::badtext(bad[i % bad.size()], g.g() % 1000000), g, i);
     if (s.rows * s.cols <= 2304)
       read_round(gen::text(s), g, i);
-#endif
-    (void)bad;
   }
   printf("compare: %llu rounds, %llu comparisons, all equal\n", (unsigned long long)count, (unsigned long long)checks);
   return checks ? 0 : 1;
@@ -292,27 +262,13 @@ static int big(const char *kind, u64 side) {
   V<i16> filled = oracle::fill(d, s.e);
   V<u8> codes;
   directions(d, filled, codes);
-#ifdef HAVE_FILL
   sheet_round("fill", tervuola_fill, call_fill, d, s.e, len, 0);
-#endif
-#ifdef HAVE_DIRECTIONS
   sheet_round("directions", tervuola_directions, call_directions, d, filled, len, 0);
-#endif
-#ifdef HAVE_COUNTS
   sheet_round("counts", tervuola_counts, said_counts, d, codes, len, 0);
-#endif
-#ifdef HAVE_LABELS
   sheet_round("labels", tervuola_labels, said_labels, d, codes, len, 0);
-#endif
-#ifdef HAVE_WATERSHEDS
   watersheds_round(d, codes, g, len, 0);
-#endif
-#ifdef HAVE_STARTS
   starts_round(d, codes, g, len, 0);
-#endif
-#ifdef HAVE_DRAIN
   drain_round(d, s.e, len, 0);
-#endif
   printf("compare: %s at %llu square, %llu comparisons, all equal\n", kind, (unsigned long long)side, (unsigned long long)checks);
   return checks ? 0 : 1;
 }
