@@ -116,7 +116,7 @@ module _ (g : Grid) (e : List ℤ) (cells-e : length e ≡ size g) (range : InRa
       (λ n. passes-void g e (suc (size g)) c m n ∙ sym (passes-void g e (size g) c m n))
       (test (isData e c)))
 
-  -- ---- minimax: "no chain of data cells to an outlet has a lower one", and some chain has just this
+  -- ---- minimax: no chain of data cells to an outlet has a lower highest elevation, and some chain has just this
   pub filled-≤-highest : (c : ℕ) (l : List ℕ) → PathToOutlet g e c l → at (filled g e) c ≤ℤ highest e l
   unfolding filled
   filled-≤-highest c l p =

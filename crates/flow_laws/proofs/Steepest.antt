@@ -13,7 +13,7 @@ use lib.Signed.{ltZ, _<ℤ_, ltZ-yes}
 use borrow.Author.Tests.{lt-ltb, le-ltb, ltb-true}
 use Rattle.grid.specs.declared.Grid.{Grid}
 use Rattle.grid.specs.Sheet.{at, isData, neighbour}
-use Rattle.grid.specs.Directions.{drop, squaredDistance, beats, beaten, isSteepest, hasDescent}
+use Rattle.grid.specs.Directions.{dropTo, squaredDistance, beats, beaten, isSteepest, hasDescent}
 use Rattle.grid_laws.proofs.Distances.{distance-positive}
 use Rattle.grid_laws.proofs.Tests.{test, true-T, T-true, true-false, and-true, and-left, and-right, not-of-false, not-true-false}
 use Rattle.grid_laws.proofs.Below.{any-of, some-of-any, none-of}
@@ -49,14 +49,14 @@ difference-sign (negsuc m) (negsuc n) = sub-sign (suc n) (suc m) ∙ suc-ltb m n
 module _ (g : Grid) (e : List ℤ) (c : ℕ) where
   -- the neighbour at p is a data cell, and lower
   abbrev pub falls : ℕ → Bool
-  falls p = isData e (neighbour g c p) && ltZ (pos 0) (drop g e c p)
+  falls p = isData e (neighbour g c p) && ltZ (pos 0) (dropTo g e c p)
 
-  pub drop-lower : (p : ℕ) → ltZ (pos 0) (drop g e c p) ≡ true → at e (neighbour g c p) <ℤ at e c
-  unfolding drop
+  pub drop-lower : (p : ℕ) → ltZ (pos 0) (dropTo g e c p) ≡ true → at e (neighbour g c p) <ℤ at e c
+  unfolding dropTo
   drop-lower p q = ltZ-yes (true-T (sym (difference-sign (at e c) (at e (neighbour g c p))) ∙ q))
 
-  pub lower-drop : (p : ℕ) → at e (neighbour g c p) <ℤ at e c → ltZ (pos 0) (drop g e c p) ≡ true
-  unfolding drop
+  pub lower-drop : (p : ℕ) → at e (neighbour g c p) <ℤ at e c → ltZ (pos 0) (dropTo g e c p) ≡ true
+  unfolding dropTo
   lower-drop p h = difference-sign (at e c) (at e (neighbour g c p)) ∙ T-true _ (h .lt)
 
   pub descends : (p : ℕ) → p < 8 → isData e (neighbour g c p) ≡ true → at e (neighbour g c p) <ℤ at e c → hasDescent g e c ≡ true
@@ -119,7 +119,7 @@ module _ (g : Grid) where
 -- ---- some neighbour has the largest weighted drop
 module _ (g : Grid) (e : List ℤ) (c : ℕ) where
   wins : ℕ → ℕ → Bool
-  wins q p = isData e (neighbour g c q) && beats g (drop g e c q) q (drop g e c p) p
+  wins q p = isData e (neighbour g c q) && beats g (dropTo g e c q) q (dropTo g e c p) p
 
   record BestTo (k : ℕ) : Type 0 where
     place : ℕ
@@ -142,35 +142,35 @@ module _ (g : Grid) (e : List ℤ) (c : ℕ) where
         best = λ q l. ⊎-elim (λ i. B .best q i) (λ i. subst (λ (x : ℕ). wins x p ≡ false) (sym i) f) (last? k q (omega arith));
       }
 
-      above : ltZ (pos 0) (drop g e c p) ≡ true
-      above = and-right (isData e (neighbour g c p)) (ltZ (pos 0) (drop g e c p)) (B .down)
+      above : ltZ (pos 0) (dropTo g e c p) ≡ true
+      above = and-right (isData e (neighbour g c p)) (ltZ (pos 0) (dropTo g e c p)) (B .down)
 
       taken : wins k p ≡ true → BestTo (suc k)
       taken t =
           record {
             place = k;
             small = h;
-            down = and-true (and-left (isData e (neighbour g c k)) (beats g (drop g e c k) k (drop g e c p) p) t) up;
+            down = and-true (and-left (isData e (neighbour g c k)) (beats g (dropTo g e c k) k (dropTo g e c p) p) t) up;
             best =
                 λ q l. ⊎-elim (λ i. loses q i)
                 (λ i. not-true-false (wins q k)
-                (λ w. true-false (and-right (isData e (neighbour g c q)) (beats g (drop g e c q) q (drop g e c k) k) w)
-                (subst (λ (x : ℕ). beats g (drop g e c x) x (drop g e c k) k ≡ false) (sym i) (beats-not-itself g (drop g e c k) k))))
+                (λ w. true-false (and-right (isData e (neighbour g c q)) (beats g (dropTo g e c q) q (dropTo g e c k) k) w)
+                (subst (λ (x : ℕ). beats g (dropTo g e c x) x (dropTo g e c k) k ≡ false) (sym i) (beats-not-itself g (dropTo g e c k) k))))
                 (last? k q (omega arith));
           }
         where
-          over : beats g (drop g e c k) k (drop g e c p) p ≡ true
-          over = and-right (isData e (neighbour g c k)) (beats g (drop g e c k) k (drop g e c p) p) t
+          over : beats g (dropTo g e c k) k (dropTo g e c p) p ≡ true
+          over = and-right (isData e (neighbour g c k)) (beats g (dropTo g e c k) k (dropTo g e c p) p) t
 
-          up : ltZ (pos 0) (drop g e c k) ≡ true
-          up = beats-positive g (drop g e c k) (drop g e c p) k p above over
+          up : ltZ (pos 0) (dropTo g e c k) ≡ true
+          up = beats-positive g (dropTo g e c k) (dropTo g e c p) k p above over
 
           loses : (q : ℕ) → q < k → wins q k ≡ false
           loses q i =
               not-true-false (wins q k)
-              (λ w. true-false (and-true (and-left (isData e (neighbour g c q)) (beats g (drop g e c q) q (drop g e c k) k) w)
-              (beats-trans g (drop g e c q) (drop g e c k) (drop g e c p) q k p above
-              (and-right (isData e (neighbour g c q)) (beats g (drop g e c q) q (drop g e c k) k) w) over)) (B .best q i))
+              (λ w. true-false (and-true (and-left (isData e (neighbour g c q)) (beats g (dropTo g e c q) q (dropTo g e c k) k) w)
+              (beats-trans g (dropTo g e c q) (dropTo g e c k) (dropTo g e c p) q k p above
+              (and-right (isData e (neighbour g c q)) (beats g (dropTo g e c q) q (dropTo g e c k) k) w) over)) (B .best q i))
 
   best-to : (k : ℕ) → k ≤ 8 → BestTo 0 → BestTo k
   best-to zero h B = B
@@ -186,7 +186,7 @@ module _ (g : Grid) (e : List ℤ) (c : ℕ) where
         B .place,
         B .small,
         and-true (B .down)
-            (not-of-false (none-of 8 (λ q. isData e (neighbour g c q) && beats g (drop g e c q) q (drop g e c (B .place)) (B .place))
+            (not-of-false (none-of 8 (λ q. isData e (neighbour g c q) && beats g (dropTo g e c q) q (dropTo g e c (B .place)) (B .place))
             (B .best))),
       )
 

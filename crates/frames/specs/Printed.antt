@@ -7,7 +7,7 @@ use lib.ListN.{length, drop}
 use Rattle.grid.specs.declared.Grid.{Grid}
 use Rattle.grid.specs.Sheet.{size}
 
--- a whole output: `text` at the front of the buffer, its length handed back, "places past it untouched"
+-- a whole output: `text` at the front of the buffer, its length handed back, places past it untouched
 pub record Printed (text out₀ out₁ : List ℕ) (written : ℕ) : Type 0 where
   pub length-of-text : written ≡ length text
   pub stored : out₁ ≡ text ++ drop (length text) out₀

@@ -5,7 +5,7 @@ use Rattle.grid.specs.Below.{table, anyBelow, sumBelow, countBelow, firstBelow,
 use Rattle.grid.specs.Sheet.{void, top, eqZ, lower, higher, isData, positionOf, moved, cellAt, neighbour}
 use Rattle.grid.specs.Outlet.{leavesAt, isOutlet, outletCode}
 use Rattle.grid.specs.Fill.{startAt, lowestTo, passAt, passes, filled}
-use Rattle.grid.specs.Directions.{drop, squaredDistance, beats, beaten, isSteepest, steepestSum, member, score, bestOf, choice, isEqual}
+use Rattle.grid.specs.Directions.{dropTo, squaredDistance, beats, beaten, isSteepest, steepestSum, member, score, bestOf, choice, isEqual}
 use Rattle.grid.specs.Directions.{hasDescent, isLevelZero, levelPassAt, levelPasses, levels, flatSum, directionAt, directions}
 use Rattle.grid.specs.Directions.{firstUnlevelled}
 use Rattle.grid.specs.Routes.{follow, endsBy, hasCode, receiver, countAt, labelAt, counts, labels, firstBadCode, firstEndless}
@@ -16,7 +16,7 @@ use Rattle.known_ground.specs.Cases.{allHold, knownGround}
 
 pub known-ground : allHold knownGround ≡ true
 unfolding allHold knownGround table anyBelow sumBelow countBelow firstBelow joinBelow has lastOf void top eqZ lower higher isData
-    positionOf moved cellAt neighbour leavesAt isOutlet outletCode startAt lowestTo passAt passes filled drop squaredDistance beats beaten
+    positionOf moved cellAt neighbour leavesAt isOutlet outletCode startAt lowestTo passAt passes filled dropTo squaredDistance beats beaten
     isSteepest steepestSum member score bestOf choice isEqual hasDescent isLevelZero levelPassAt levelPasses levels flatSum directionAt
     directions firstUnlevelled follow endsBy hasCode receiver countAt labelAt counts labels firstBadCode firstEndless inRange askSize
     allHave askSheets askWork askCodes fillCheck codesCheck drainCheck hexValue isTextByte number4 textGrid endsLine isShaped firstBadByte

@@ -40,7 +40,7 @@ fn check_text(text: &[u8]) -> Answer
 }
 
 // "4. In a call with text: is rows × columns at most 2,304?" "5. Rows from 1 to 4,000?" "6. Columns from 1 to 4,000?" "8. Has each result
-// sheet rows × columns elements (a sheet read from text: at least as many)?"
+// sheet rows × columns elements (a sheet read from text: at least as many, places past them untouched)"
 fn check_size(g: Grid, room: usize) -> Answer
     requires { ⌜ (g .rows ≤ 69904) × (g .cols ≤ 69904) ⌝ }
     ensures { λ r. ⌜ r ≡ sizeCheck g room ⌝ }

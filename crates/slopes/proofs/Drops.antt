@@ -18,7 +18,7 @@ use Rattle.grid.specs.declared.Grid.{Grid}
 use Rattle.grid.specs.Below.{anyBelow}
 use Rattle.grid.specs.Sheet.{size, void, top, at, isData, neighbour, codeAt}
 use Rattle.grid.specs.Outlet.{leavesAt, isOutlet}
-use Rattle.grid.specs.Directions.{drop, squaredDistance, beats, beaten, isSteepest, steepestSum}
+use Rattle.grid.specs.Directions.{dropTo, squaredDistance, beats, beaten, isSteepest, steepestSum}
 use Rattle.grid_laws.proofs.Tests.{test, and-false-left, cond-true, cond-false, or-none-right}
 use Rattle.grid_laws.proofs.Below.{any-ext, no-of-any, sum-ext, is-table, at-table}
 use Rattle.cells.specs.Keys.{keyOf}
@@ -92,18 +92,18 @@ module _ (g : Grid) (e : List ℤ) (c : ℕ) (known : KnownTo g e c 8) where
     abbrev own : ℕ
     own = keyOf (at e c)
 
-    fall-is : (q : ℕ) → q < 8 → (isData e (neighbour g c q) && ltZ (pos 0) (drop g e c q)) ≡ ltb (getD l q 0) own
-    unfolding drop
+    fall-is : (q : ℕ) → q < 8 → (isData e (neighbour g c q) && ltZ (pos 0) (dropTo g e c q)) ≡ ltb (getD l q 0) own
+    unfolding dropTo
     fall-is q h =
         ap₂ _&&_ (data-key e (neighbour g c q) (known q h .0) ∙ lt-ltb 0 (key q) (full q h))
         (key-falls (at e c) (at e (neighbour g c q)) hc (known q h .0)) ∙ ap (λ (x : ℕ). ltb x own) (sym (around q h))
 
-    drop-down : (q : ℕ) → q < 8 → key q ≤ own → drop g e c q ≡ pos (own - getD l q 0)
-    unfolding drop
+    drop-down : (q : ℕ) → q < 8 → key q ≤ own → dropTo g e c q ≡ pos (own - getD l q 0)
+    unfolding dropTo
     drop-down q h k = key-drop (at e c) (at e (neighbour g c q)) hc (known q h .0) k ∙ ap (λ (x : ℕ). pos (own - x)) (sym (around q h))
 
-    drop-up : (q : ℕ) → q < 8 → own < key q → drop g e c q ≡ negsuc (key q - suc own)
-    unfolding drop
+    drop-up : (q : ℕ) → q < 8 → own < key q → dropTo g e c q ≡ negsuc (key q - suc own)
+    unfolding dropTo
     drop-up q h k = key-difference (at e c) (at e (neighbour g c q)) hc (known q h .0) ∙ cond-true (negsuc (key q - suc own))
         (pos (own - key q)) (lt-ltb own (key q) k)
 
@@ -112,15 +112,15 @@ module _ (g : Grid) (e : List ℤ) (c : ℕ) (known : KnownTo g e c 8) where
 
     -- q beats p, where p has a drop above 0
     beats-is : (p q : ℕ) → p < 8 → q < 8 → getD l p 0 < own →
-        (isData e (neighbour g c q) && beats g (drop g e c q) q (drop g e c p) p) ≡ over p q
+        (isData e (neighbour g c q) && beats g (dropTo g e c q) q (dropTo g e c p) p) ≡ over p q
     beats-is p q hp hq lp =
-        ap (λ (t : Bool). t && beats g (drop g e c q) q (drop g e c p) p)
+        ap (λ (t : Bool). t && beats g (dropTo g e c q) q (dropTo g e c p) p)
         (data-key e (neighbour g c q) (known q hq .0) ∙ lt-ltb 0 (key q) (full q hq)) ∙ go (decLt own (key q))
       where
-        down : drop g e c p ≡ pos (own - getD l p 0)
+        down : dropTo g e c p ≡ pos (own - getD l p 0)
         down = drop-down p hp (omega (arith, around p hp))
 
-        go : Dec (own < key q) → beats g (drop g e c q) q (drop g e c p) p ≡ over p q
+        go : Dec (own < key q) → beats g (dropTo g e c q) q (dropTo g e c p) p ≡ over p q
         go (yes k) =
             ap₂ (λ (x y : ℤ). beats g x q y p) (drop-up q hq k) down ∙ up-loses g (key q - suc own) (own - getD l p 0) q p
             ∙ sym (nothing-over (own - getD l q 0) (squaredDistance g p) (squareAt own l p * squaredDistance g q)
@@ -136,7 +136,7 @@ module _ (g : Grid) (e : List ℤ) (c : ℕ) (known : KnownTo g e c 8) where
         go : (t : Bool) → ltb (getD l p 0) own ≡ t → isSteepest g e c p ≡ (ltb (getD l p 0) own && not (anyBelow 8 (over p)))
         go true t =
             ap₂ _&&_ (fall-is p h)
-            (ap not (any-ext 8 (λ q. isData e (neighbour g c q) && beats g (drop g e c q) q (drop g e c p) p) (over p)
+            (ap not (any-ext 8 (λ q. isData e (neighbour g c q) && beats g (dropTo g e c q) q (dropTo g e c p) p) (over p)
             (λ q k. beats-is p q h k (ltb-true (getD l p 0) own t))))
         go false t = and-false-left (not (beaten g e c p)) (fall-is p h ∙ t) ∙ sym (and-false-left (not (anyBelow 8 (over p))) t)
 
