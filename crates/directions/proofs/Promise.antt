@@ -53,13 +53,16 @@ module _ (g : Grid) (e : List ℤ) (c₀ w₀ : List ℕ) (r : Answer)
       }
 
   pub accepted-sizes : r .number ≡ 0 → (size g < 2 ^ 24) × (length e ≡ size g) × (length c₀ ≡ size g) × (4 * size g ≤ length w₀)
+      × (g .cols < 2 ^ 24)
   accepted-sizes z =
       let p = yes-of z in
-      let c = p .fits .cells in (
+      let c = p .fits .cells in
+      let k = p .fits .cols-high in (
         omega arith,
         have-first (size g) (length e) (length e ∷ []) (p .inputs-have),
         have-first (size g) (length c₀) (length c₀ ∷ length c₀ ∷ length c₀ ∷ []) (p .results-have),
         p .room,
+        omega arith,
       )
 
   -- 10: some data cell has no level

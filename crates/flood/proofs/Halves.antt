@@ -7,10 +7,7 @@ use Prim.Native.Nat.{ℕ, _+_, _*_, _/_, _%_, _≤_, _<_}
 use native.Mathlib.Omega.{arith}
 use lib.ListN.{length, getD, set}
 use Rattle.grid.specs.declared.Grid.{Grid}
-use Rattle.grid.specs.Sheet.{size, neighbour}
-use Rattle.grid_laws.proofs.Neighbours.{inner-neighbour}
-use Rattle.cells.specs.Steps.{Inner}
-use Rattle.flood.specs.Distances.{Distances}
+use Rattle.grid.specs.Sheet.{size}
 use Rattle.key_sort.specs.Order.{Sorted}
 use Rattle.flood_laws.specs.Flood.{CellOf, Wanted, Touched, Opens, Opening, During, Spread, Between}
 use Rattle.flood_laws.specs.Packed.{frontOf, backOf}
@@ -83,15 +80,6 @@ module _ (n half v len m : ℕ) (w w' : List ℕ) (hn : n + n ≤ half) (hl : ha
   touch-yes q e W =
       let l = wanted-low n half v m w W in
       rw e (front-same n half v len m w hn hl (W .0 .0) hq l, inr (q, back-set n half v len m w hn hl (W .0 .0) hq l, W))
-
--- the neighbour of a cell within the border, by its distance from the cell above to the left
-pub inner-at : (g : Grid) (c p : ℕ) (ways : List ℕ) → Inner g (c / g .cols) (c % g .cols) → Distances (g .cols) ways → p < 8
-    → (c + getD ways p 0 ≡ neighbour g c p + (g .cols + 1)) × (neighbour g c p < size g)
-inner-at g c p ways i w hp =
-    let n = inner-neighbour g c p hp (i .0) (i .1) (i .2) (i .3) in
-    let e = w p hp in
-    let q = n .0 in
-    (omega arith, n .1)
 
 -- the queue's first, as the program reads it
 module _ (g : Grid) (half k v head len : ℕ) (f w : List ℕ) (D : During g f (backOf (size g) half w) k v head len) where

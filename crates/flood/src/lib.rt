@@ -13,8 +13,7 @@ ghost use Rattle.grid.specs.Sheet.{size, neighbour};
 ghost use Rattle.key_sort.specs.Order.{Sorted};
 ghost use Rattle.flood_laws.specs.Flood.{CellOf, Between, During, Spread, Wanted, Touched, Room, Opens, Opening};
 ghost use Rattle.flood_laws.specs.Packed.{frontOf, backOf};
-ghost use Rattle.cells.specs.Steps.{Inner};
-ghost use Rattle.flood.specs.Distances.{Distances};
+ghost use Rattle.cells.specs.Steps.{Inner, Offsets};
 
 // Whether the cell `m` holds data, is not reached and has a key of at most `v`.
 fn wanted(n: usize, v: u32, m: usize, work: &[u32], half: usize) -> bool
@@ -98,37 +97,6 @@ fn touch_any(n: usize, half: usize, v: u32, len: usize, m: usize, work: &mut [u3
     touch(n, half, v, len, m, work)
 }
 
-// Where the neighbours of a cell within the border lie, in code order, counted from the cell above it to the left.
-fn distances(cols: usize) -> [usize; 8]
-    requires { ⌜ cols < 2 ^ 24 ⌝ }
-    ensures { λ r. ⌜ Distances cols r ⌝ }
-{
-    [
-        2,
-        cols + 2,
-        2 * cols + 2,
-        2 * cols + 1,
-        2 * cols,
-        cols,
-        0,
-        1,
-    ]
-}
-
-// The neighbour at the position `p` of a cell within the border.
-fn near_inner(g: Grid, ways: &[usize; 8], c: usize, p: usize) -> usize
-    requires { ⌜ size g < 2 ^ 24 ⌝ }
-    requires { ⌜ g .cols < 2 ^ 24 ⌝ }
-    requires { ⌜ Inner g (c / g .cols) (c % g .cols) ⌝ }
-    requires { ⌜ Distances (g .cols) (now ways) ⌝ }
-    requires { ⌜ p < 8 ⌝ }
-    ensures { λ r. ⌜ r ≡ neighbour g c p ⌝ }
-    ensures { λ r. ⌜ r < size g ⌝ }
-{
-    let cols = g.cols;
-    c + ways[p] - (cols + 1)
-}
-
 // Reaches what is wanted beside `x`, the queue's cell at `head`, which lies within the border.
 fn spread_inner(
     g: Grid,
@@ -138,17 +106,16 @@ fn spread_inner(
     head: usize,
     len: usize,
     x: usize,
-    ways: &[usize; 8],
+    offsets: &[usize; 8],
     work: &mut [u32],
 ) -> usize
     requires { ⌜ size g < 2 ^ 24 ⌝ }
-    requires { ⌜ g .cols < 2 ^ 24 ⌝ }
     requires { ⌜ size g + size g ≤ half ⌝ }
     requires { ⌜ half + size g ≤ length (now work) ⌝ }
     requires { ⌜ v < 65536 ⌝ }
     requires { ⌜ Spread g (frontOf (size g) (now work)) (backOf (size g) half (now work)) k v head len x 0 ⌝ }
     requires { ⌜ Inner g (x / g .cols) (x % g .cols) ⌝ }
-    requires { ⌜ Distances (g .cols) (now ways) ⌝ }
+    requires { ⌜ Offsets (g .cols) (now offsets) ⌝ }
     ensures { λ r. ⌜ frontOf (size g) (now (work .exit)) ≡ frontOf (size g) (now (work .entry)) ⌝ }
     ensures { λ r. ⌜ During g (frontOf (size g) (now (work .entry))) (backOf (size g) half (now (work .exit))) k v (head + 1) r ⌝ }
 {
@@ -156,7 +123,7 @@ fn spread_inner(
     let mut tail = len;
     let mut p: usize = 0;
     while p < 8 {
-        let m = near_inner(g, ways, x, p);
+        let m = cells::beside(g, offsets, x, p);
         tail = touch(n, half, v, tail, m, work);
         p += 1;
     }
@@ -202,24 +169,23 @@ fn spread(
     v: u32,
     head: usize,
     len: usize,
-    ways: &[usize; 8],
+    offsets: &[usize; 8],
     work: &mut [u32],
 ) -> usize
     requires { ⌜ size g < 2 ^ 24 ⌝ }
-    requires { ⌜ g .cols < 2 ^ 24 ⌝ }
     requires { ⌜ size g + size g ≤ half ⌝ }
     requires { ⌜ half + size g ≤ length (now work) ⌝ }
     requires { ⌜ v < 65536 ⌝ }
     requires { ⌜ head < len ⌝ }
     requires { ⌜ During g (frontOf (size g) (now work)) (backOf (size g) half (now work)) k v head len ⌝ }
-    requires { ⌜ Distances (g .cols) (now ways) ⌝ }
+    requires { ⌜ Offsets (g .cols) (now offsets) ⌝ }
     ensures { λ r. ⌜ frontOf (size g) (now (work .exit)) ≡ frontOf (size g) (now (work .entry)) ⌝ }
     ensures { λ r. ⌜ During g (frontOf (size g) (now (work .entry))) (backOf (size g) half (now (work .exit))) k v (head + 1) r ⌝ }
 {
     let cols = g.cols;
     let x = work[half + head] as usize;
     if cells::is_inner(g, x / cols, x % cols) {
-        return spread_inner(g, half, k, v, head, len, x, ways, work);
+        return spread_inner(g, half, k, v, head, len, x, offsets, work);
     }
     spread_border(g, half, k, v, head, len, x, work)
 }
@@ -232,23 +198,22 @@ fn drain(
     v: u32,
     start: usize,
     len: usize,
-    ways: &[usize; 8],
+    offsets: &[usize; 8],
     work: &mut [u32],
 ) -> usize
     requires { ⌜ size g < 2 ^ 24 ⌝ }
-    requires { ⌜ g .cols < 2 ^ 24 ⌝ }
     requires { ⌜ size g + size g ≤ half ⌝ }
     requires { ⌜ half + size g ≤ length (now work) ⌝ }
     requires { ⌜ v < 65536 ⌝ }
     requires { ⌜ During g (frontOf (size g) (now work)) (backOf (size g) half (now work)) k v start len ⌝ }
-    requires { ⌜ Distances (g .cols) (now ways) ⌝ }
+    requires { ⌜ Offsets (g .cols) (now offsets) ⌝ }
     ensures { λ r. ⌜ frontOf (size g) (now (work .exit)) ≡ frontOf (size g) (now (work .entry)) ⌝ }
     ensures { λ r. ⌜ During g (frontOf (size g) (now (work .entry))) (backOf (size g) half (now (work .exit))) k v r r ⌝ }
 {
     let mut head = start;
     let mut tail = len;
     while head < tail {
-        tail = spread(g, half, k, v, head, tail, ways, work);
+        tail = spread(g, half, k, v, head, tail, offsets, work);
         head += 1;
     }
     tail
@@ -284,20 +249,19 @@ fn opens_any(n: usize, half: usize, m: usize, work: &[u32]) -> bool
 }
 
 // `is_opening` for a cell within the border.
-fn opening_inner(g: Grid, half: usize, c: usize, ways: &[usize; 8], work: &[u32]) -> bool
+fn opening_inner(g: Grid, half: usize, c: usize, offsets: &[usize; 8], work: &[u32]) -> bool
     requires { ⌜ size g < 2 ^ 24 ⌝ }
-    requires { ⌜ g .cols < 2 ^ 24 ⌝ }
     requires { ⌜ size g ≤ length (now work) ⌝ }
     requires { ⌜ CellOf (size g) (frontOf (size g) (now work)) c ⌝ }
     requires { ⌜ Inner g (c / g .cols) (c % g .cols) ⌝ }
-    requires { ⌜ Distances (g .cols) (now ways) ⌝ }
+    requires { ⌜ Offsets (g .cols) (now offsets) ⌝ }
     ensures { λ r. ⌜ (r ≡ true → Opening g (frontOf (size g) (now (work .entry))) (backOf (size g) half (now (work .entry))) c) ⌝ }
     ensures { λ r. ⌜ (r ≡ false → Opening g (frontOf (size g) (now (work .entry))) (backOf (size g) half (now (work .entry))) c → ⊥) ⌝ }
 {
     let n = g.rows * g.cols;
     let mut p: usize = 0;
     while p < 8 {
-        let m = near_inner(g, ways, c, p);
+        let m = cells::beside(g, offsets, c, p);
         if opens(n, half, m, work) {
             return true;
         }
@@ -327,34 +291,38 @@ fn opening_border(g: Grid, half: usize, c: usize, work: &[u32]) -> bool
 }
 
 // Whether the data cell `c` is an outlet or beside a reached cell. Both are one test here: a step leads off the sheet, to a void or to a
-// reached cell. Where other cells are outlets (document 02, closed sides), this function and the two above change, and nothing else in the
-// flood.
-fn is_opening(g: Grid, half: usize, c: usize, ways: &[usize; 8], work: &[u32]) -> bool
+// reached cell.
+fn is_opening(g: Grid, half: usize, c: usize, offsets: &[usize; 8], work: &[u32]) -> bool
     requires { ⌜ size g < 2 ^ 24 ⌝ }
-    requires { ⌜ g .cols < 2 ^ 24 ⌝ }
     requires { ⌜ size g ≤ length (now work) ⌝ }
     requires { ⌜ CellOf (size g) (frontOf (size g) (now work)) c ⌝ }
-    requires { ⌜ Distances (g .cols) (now ways) ⌝ }
+    requires { ⌜ Offsets (g .cols) (now offsets) ⌝ }
     ensures { λ r. ⌜ (r ≡ true → Opening g (frontOf (size g) (now (work .entry))) (backOf (size g) half (now (work .entry))) c) ⌝ }
     ensures { λ r. ⌜ (r ≡ false → Opening g (frontOf (size g) (now (work .entry))) (backOf (size g) half (now (work .entry))) c → ⊥) ⌝ }
 {
     let cols = g.cols;
     if cells::is_inner(g, c / cols, c % cols) {
-        return opening_inner(g, half, c, ways, work);
+        return opening_inner(g, half, c, offsets, work);
     }
     opening_border(g, half, c, work)
 }
 
 // Reaches the cell at the place `k` of the order, if it is an outlet or beside a reached cell, and what follows from that.
-fn visit(g: Grid, half: usize, k: usize, len: usize, ways: &[usize; 8], work: &mut [u32]) -> usize
+fn visit(
+    g: Grid,
+    half: usize,
+    k: usize,
+    len: usize,
+    offsets: &[usize; 8],
+    work: &mut [u32],
+) -> usize
     requires { ⌜ size g < 2 ^ 24 ⌝ }
-    requires { ⌜ g .cols < 2 ^ 24 ⌝ }
     requires { ⌜ size g + size g ≤ half ⌝ }
     requires { ⌜ half + size g ≤ length (now work) ⌝ }
     requires { ⌜ k < size g ⌝ }
     requires { ⌜ Sorted (size g) (frontOf (size g) (now work)) ⌝ }
     requires { ⌜ Between g (frontOf (size g) (now work)) (backOf (size g) half (now work)) k len ⌝ }
-    requires { ⌜ Distances (g .cols) (now ways) ⌝ }
+    requires { ⌜ Offsets (g .cols) (now offsets) ⌝ }
     ensures { λ r. ⌜ frontOf (size g) (now (work .exit)) ≡ frontOf (size g) (now (work .entry)) ⌝ }
     ensures { λ r. ⌜ Between g (frontOf (size g) (now (work .entry))) (backOf (size g) half (now (work .exit))) (k + 1) r ⌝ }
 {
@@ -367,11 +335,11 @@ fn visit(g: Grid, half: usize, k: usize, len: usize, ways: &[usize; 8], work: &m
     if v >= 65536 {
         return len;
     }
-    if !is_opening(g, half, c, ways, work) {
+    if !is_opening(g, half, c, offsets, work) {
         return len;
     }
     let more = reach(n, half, v, len, c, work);
-    drain(g, half, k, v, len, more, ways, work)
+    drain(g, half, k, v, len, more, offsets, work)
 }
 
 // Floods the sheet, whose cells stand in order of key in the work buffer after their keys.
@@ -387,11 +355,11 @@ pub fn flood(g: Grid, half: usize, work: &mut [u32])
         len) ⌝ }
 {
     let n = g.rows * g.cols;
-    let ways = distances(g.cols);
+    let offsets = cells::offsets(g.cols);
     let mut len: usize = 0;
     let mut k: usize = 0;
     while k < n {
-        len = visit(g, half, k, len, &ways, work);
+        len = visit(g, half, k, len, &offsets, work);
         k += 1;
     }
 }

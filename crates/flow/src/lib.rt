@@ -15,7 +15,7 @@ ghost use Rattle.grid.specs.Sheet.{size, at, isData, codeAt};
 ghost use Rattle.grid.specs.Outlet.{isOutlet};
 ghost use Rattle.grid.specs.Directions.{directionAt, directions, flatSum, firstUnlevelled};
 ghost use Rattle.cells.specs.Keys.{levelOf};
-ghost use Rattle.cells.specs.Steps.{Inner};
+ghost use Rattle.cells.specs.Steps.{Inner, Offsets};
 ghost use Rattle.slopes.specs.Steepest.{choices as choices', innerSum};
 ghost use Rattle.flow_laws.specs.Words.{wordLevel, levelsIn, firstWord, Seeded, Levelled};
 ghost use Rattle.flow.specs.Seeding.{WordsTo, SumsIn, BorderIn};
@@ -92,29 +92,38 @@ fn outer_words(g: Grid, elevations: &[i16], from: usize, to: usize, work: &mut [
 }
 
 // Goes on with words for a row within the border, from its second cell to the first of the next row.
-fn seed_row(g: Grid, elevations: &[i16], table: &[u8; 256], row: usize, work: &mut [u32])
+fn seed_row(
+    g: Grid,
+    offsets: &[usize; 8],
+    elevations: &[i16],
+    table: &[u8; 256],
+    row: usize,
+    work: &mut [u32],
+)
     requires { ⌜ length (now elevations) ≡ size g ⌝ }
     requires { ⌜ size g < 2 ^ 24 ⌝ }
     requires { ⌜ size g ≤ length (now work) ⌝ }
     requires { ⌜ now table ≡ choices' ⌝ }
     requires { ⌜ (1 ≤ row) × (row + 2 ≤ g .rows) × (3 ≤ g .cols) ⌝ }
     requires { ⌜ WordsTo g (now elevations) (row * g .cols + 1) (now work) ⌝ }
+    requires { ⌜ Offsets (g .cols) (now offsets) ⌝ }
     ensures { λ r. ⌜ WordsTo g (now (elevations .entry)) ((row + 1) * g .cols + 1) (now (work .exit)) ⌝ }
 {
     let cols = g.cols;
     let from = row * cols + 1;
     let to = from + (cols - 2);
-    slopes::row_sums(g, elevations, from, to, work);
+    slopes::row_sums(g, offsets, elevations, from, to, work);
     inner_words(g, elevations, table, from, to, work);
     outer_words(g, elevations, to, to + 2, work);
 }
 
 // The words of a sheet with cells within its border.
-fn seed_rows(g: Grid, elevations: &[i16], work: &mut [u32])
+fn seed_rows(g: Grid, offsets: &[usize; 8], elevations: &[i16], work: &mut [u32])
     requires { ⌜ length (now elevations) ≡ size g ⌝ }
     requires { ⌜ size g < 2 ^ 24 ⌝ }
     requires { ⌜ size g ≤ length (now work) ⌝ }
     requires { ⌜ (3 ≤ g .rows) × (3 ≤ g .cols) ⌝ }
+    requires { ⌜ Offsets (g .cols) (now offsets) ⌝ }
     ensures { λ r. ⌜ Seeded g (now (elevations .entry)) (now (work .exit)) ⌝ }
 {
     let table = slopes::choices();
@@ -123,7 +132,7 @@ fn seed_rows(g: Grid, elevations: &[i16], work: &mut [u32])
     outer_words(g, elevations, 0, cols + 1, work);
     let mut row: usize = 1;
     while row + 1 < rows {
-        seed_row(g, elevations, &table, row, work);
+        seed_row(g, offsets, elevations, &table, row, work);
         row += 1;
     }
     outer_words(g, elevations, row * cols + 1, elevations.len(), work);
@@ -131,10 +140,11 @@ fn seed_rows(g: Grid, elevations: &[i16], work: &mut [u32])
 
 // Puts the first word of every cell into the work buffer, row by row: on the border, and on a sheet that is all border, there are only
 // outlets and voids.
-fn seed(g: Grid, elevations: &[i16], work: &mut [u32])
+fn seed(g: Grid, offsets: &[usize; 8], elevations: &[i16], work: &mut [u32])
     requires { ⌜ length (now elevations) ≡ size g ⌝ }
     requires { ⌜ size g < 2 ^ 24 ⌝ }
     requires { ⌜ size g ≤ length (now work) ⌝ }
+    requires { ⌜ Offsets (g .cols) (now offsets) ⌝ }
     ensures { λ r. ⌜ Seeded g (now (elevations .entry)) (now (work .exit)) ⌝ }
 {
     if g.rows < 3 {
@@ -145,7 +155,7 @@ fn seed(g: Grid, elevations: &[i16], work: &mut [u32])
         outer_words(g, elevations, 0, elevations.len(), work);
         return;
     }
-    seed_rows(g, elevations, work);
+    seed_rows(g, offsets, elevations, work);
 }
 
 // Whether a cell holds data and has no level.
@@ -226,8 +236,15 @@ fn with_code(sum: usize, p: usize, chosen: bool) -> usize
     sum
 }
 
-// "The sum of the codes of equal neighbours at level k", for a cell of level k + 1, whose word is `word`.
-fn flat_sum(g: Grid, elevations: &[i16], work: &[u32], cell: usize, word: u32) -> usize
+// Adds up "the sum of the codes of equal neighbours at level k", for a cell of level k + 1, whose word is `word`.
+fn flat_sum(
+    g: Grid,
+    offsets: &[usize; 8],
+    elevations: &[i16],
+    work: &[u32],
+    cell: usize,
+    word: u32,
+) -> usize
     requires { ⌜ length (now elevations) ≡ size g ⌝ }
     requires { ⌜ size g < 2 ^ 24 ⌝ }
     requires { ⌜ size g ≤ length (now work) ⌝ }
@@ -236,6 +253,7 @@ fn flat_sum(g: Grid, elevations: &[i16], work: &[u32], cell: usize, word: u32) -
     requires { ⌜ isData (now elevations) cell ≡ true ⌝ }
     requires { ⌜ word ≡ getD (now work) cell 0 ⌝ }
     requires { ⌜ 256 ≤ word ⌝ }
+    requires { ⌜ Offsets (g .cols) (now offsets) ⌝ }
     ensures { λ r. ⌜ r ≡ flatSum g (now (elevations .entry)) (levelsIn g (now (work .entry))) cell ⌝ }
     ensures { λ r. ⌜ r < 256 ⌝ }
 {
@@ -244,7 +262,7 @@ fn flat_sum(g: Grid, elevations: &[i16], work: &[u32], cell: usize, word: u32) -
     let mut sum: usize = 0;
     let mut p: usize = 0;
     while p < 8 {
-        let m = cells::beside(g, cell, p);
+        let m = cells::beside(g, offsets, cell, p);
         sum = with_code(sum, p, is_below(elevations, work, k, low, word, m));
         p += 1;
     }
@@ -252,7 +270,14 @@ fn flat_sum(g: Grid, elevations: &[i16], work: &[u32], cell: usize, word: u32) -
 }
 
 // The code of a cell of a sheet on which every data cell has a level.
-fn code_at(g: Grid, elevations: &[i16], table: &[u8; 256], work: &[u32], cell: usize) -> u8
+fn code_at(
+    g: Grid,
+    offsets: &[usize; 8],
+    elevations: &[i16],
+    table: &[u8; 256],
+    work: &[u32],
+    cell: usize,
+) -> u8
     requires { ⌜ length (now elevations) ≡ size g ⌝ }
     requires { ⌜ size g < 2 ^ 24 ⌝ }
     requires { ⌜ size g ≤ length (now work) ⌝ }
@@ -260,30 +285,32 @@ fn code_at(g: Grid, elevations: &[i16], table: &[u8; 256], work: &[u32], cell: u
     requires { ⌜ cell < size g ⌝ }
     requires { ⌜ Levelled g (now elevations) (now work) ⌝ }
     requires { ⌜ (getD (now work) cell 0 ≡ 0 → isData (now elevations) cell ≡ false) ⌝ }
+    requires { ⌜ Offsets (g .cols) (now offsets) ⌝ }
     ensures { λ r. ⌜ r ≡ directionAt g (now (elevations .entry)) (levelsIn g (now (work .entry))) cell ⌝ }
 {
     let word = work[cell];
     if word < 256 {
         return word as u8;
     }
-    slopes::choose(table, flat_sum(g, elevations, work, cell, word))
+    slopes::choose(table, flat_sum(g, offsets, elevations, work, cell, word))
 }
 
 // Writes the code of every cell.
-fn write_codes(g: Grid, elevations: &[i16], work: &[u32], codes: &mut [u8])
+fn write_codes(g: Grid, offsets: &[usize; 8], elevations: &[i16], work: &[u32], codes: &mut [u8])
     requires { ⌜ length (now elevations) ≡ size g ⌝ }
     requires { ⌜ size g < 2 ^ 24 ⌝ }
     requires { ⌜ size g ≤ length (now work) ⌝ }
     requires { ⌜ length (now codes) ≡ size g ⌝ }
     requires { ⌜ Levelled g (now elevations) (now work) ⌝ }
     requires { ⌜ ((c : ℕ) → c < size g → getD (now work) c 0 ≡ 0 → isData (now elevations) c ≡ false) ⌝ }
+    requires { ⌜ Offsets (g .cols) (now offsets) ⌝ }
     ensures { λ r. ⌜ now (codes .exit) ≡ table' (size g) (directionAt g (now (elevations .entry)) (levelsIn g (now (work .entry)))) ⌝ }
 {
     let table = slopes::choices();
     let cells = elevations.len();
     let mut cell: usize = 0;
     while cell < cells {
-        codes[cell] = code_at(g, elevations, &table, work, cell);
+        codes[cell] = code_at(g, offsets, elevations, &table, work, cell);
         cell += 1;
     }
 }
@@ -294,15 +321,17 @@ pub fn directions_into(g: Grid, elevations: &[i16], codes: &mut [u8], work: &mut
     requires { ⌜ length (now elevations) ≡ size g ⌝ }
     requires { ⌜ length (now codes) ≡ size g ⌝ }
     requires { ⌜ 4 * size g ≤ length (now work) ⌝ }
+    requires { ⌜ g .cols < 2 ^ 24 ⌝ }
     ensures { λ r. ⌜ r ≡ firstUnlevelled g (now (elevations .entry)) ⌝ }
     ensures { λ r. ⌜ now (codes .exit) ≡ cond (eqb r (size g)) (directions g (now (elevations .entry))) (now (codes .entry)) ⌝ }
 {
-    seed(g, elevations, work);
-    levels::levels(g, elevations, work);
+    let offsets = cells::offsets(g.cols);
+    seed(g, &offsets, elevations, work);
+    levels::levels(g, &offsets, elevations, work);
     let first = first_without(elevations, work);
     if first < elevations.len() {
         return first;
     }
-    write_codes(g, elevations, work, codes);
+    write_codes(g, &offsets, elevations, work, codes);
     first
 }

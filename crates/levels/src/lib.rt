@@ -1,8 +1,8 @@
 // Levels (document 01, "Directions"): how far each cell of a flat is from a cell of level 0, in steps to equal neighbours. Given the words
 // of the cells of level 0 it finds all others in linear time, breadth first: one look at each cell for level 1, then the queue, whose
-// cells stand by rising level, so that a cell is marked by the lowest of its equal neighbours. "The queue of waiting cells lies in the
-// second half of the lent work buffer", lent on as its tail. A data cell that is not at level 0 is no outlet, so it lies within the
-// border, and its neighbours at fixed distances. Proved by the certificate of `flow_laws`: each loop keeps the state `Searching`.
+// cells stand by rising level, so that a cell is marked by the lowest of its equal neighbours. It is "the queue of waiting cells" that
+// "lies in the second half of the lent work buffer", lent on as its tail. A data cell that is not at level 0 is no outlet, so it lies
+// within the border, and its neighbours at fixed offsets. Proved by the certificate of `flow_laws`: each loop keeps the state `Searching`.
 use cells::beside;
 use cells::key;
 use grid::Grid;
@@ -13,7 +13,7 @@ ghost use lib.ListN.{length, getD, set};
 ghost use Rattle.grid.specs.Sheet.{size, at, neighbour};
 ghost use Rattle.grid.specs.Directions.{isEqual};
 ghost use Rattle.cells.specs.Keys.{levelOf};
-ghost use Rattle.cells.specs.Steps.{Inner};
+ghost use Rattle.cells.specs.Steps.{Inner, Offsets};
 ghost use Rattle.flow_laws.specs.Words.{levelIn, Seeded, Searching, Joining, Levelled};
 ghost use Rattle.levels.specs.Touched.{Touched};
 
@@ -53,10 +53,11 @@ fn touch(half: usize, word: u32, tail: usize, m: usize, work: &mut [u32]) -> usi
     mark(half, tail, m, word, work)
 }
 
-// Gives the next level to the equal neighbours of the queue's cell at `head` that have none. A cell without a drop has no lower neighbour, so
-// two such neighbours are equal: no elevation is read, and the elevations stand here for the contract.
+// Gives the next level to the equal neighbours of the queue's cell at `head` that have none. A cell without a drop has no lower neighbour,
+// so two such neighbours are equal: no elevation is read, and the elevations stand here for the contract.
 fn spread(
     g: Grid,
+    offsets: &[usize; 8],
     elevations: &[i16],
     half: usize,
     head: usize,
@@ -69,6 +70,7 @@ fn spread(
     requires { ⌜ half + size g ≤ length (now work) ⌝ }
     requires { ⌜ head < tail ⌝ }
     requires { ⌜ Searching g (now elevations) half (now work) (size g) head tail ⌝ }
+    requires { ⌜ Offsets (g .cols) (now offsets) ⌝ }
     ensures { λ r. ⌜ Searching g (now (elevations .entry)) half (now (work .exit)) (size g) (head + 1) r ⌝ }
 {
     let cell = work[half + head] as usize;
@@ -76,7 +78,7 @@ fn spread(
     let mut end = tail;
     let mut p: usize = 0;
     while p < 8 {
-        let m = beside(g, cell, p);
+        let m = beside(g, offsets, cell, p);
         end = touch(half, word, end, m, work);
         p += 1;
     }
@@ -84,18 +86,26 @@ fn spread(
 }
 
 // Empties the queue; its length at the end.
-fn empty_queue(g: Grid, elevations: &[i16], half: usize, tail: usize, work: &mut [u32]) -> usize
+fn empty_queue(
+    g: Grid,
+    offsets: &[usize; 8],
+    elevations: &[i16],
+    half: usize,
+    tail: usize,
+    work: &mut [u32],
+) -> usize
     requires { ⌜ length (now elevations) ≡ size g ⌝ }
     requires { ⌜ size g < 2 ^ 24 ⌝ }
     requires { ⌜ size g ≤ half ⌝ }
     requires { ⌜ half + size g ≤ length (now work) ⌝ }
     requires { ⌜ Searching g (now elevations) half (now work) (size g) 0 tail ⌝ }
+    requires { ⌜ Offsets (g .cols) (now offsets) ⌝ }
     ensures { λ r. ⌜ Searching g (now (elevations .entry)) half (now (work .exit)) (size g) r r ⌝ }
 {
     let mut head: usize = 0;
     let mut end = tail;
     while head < end {
-        end = spread(g, elevations, half, head, end, work);
+        end = spread(g, offsets, elevations, half, head, end, work);
         head += 1;
     }
     end
@@ -112,7 +122,14 @@ fn pick(test: bool, yes: usize, no: usize) -> usize
 }
 
 // The position of an equal neighbour of level 0, the last of them, or 8; `k` is the cell's key.
-fn beside_level_zero(g: Grid, elevations: &[i16], cell: usize, k: u32, work: &[u32]) -> usize
+fn beside_level_zero(
+    g: Grid,
+    offsets: &[usize; 8],
+    elevations: &[i16],
+    cell: usize,
+    k: u32,
+    work: &[u32],
+) -> usize
     requires { ⌜ length (now elevations) ≡ size g ⌝ }
     requires { ⌜ size g < 2 ^ 24 ⌝ }
     requires { ⌜ size g ≤ length (now work) ⌝ }
@@ -120,6 +137,7 @@ fn beside_level_zero(g: Grid, elevations: &[i16], cell: usize, k: u32, work: &[u
     requires { ⌜ Inner g (cell / g .cols) (cell % g .cols) ⌝ }
     requires { ⌜ at (now elevations) cell ≡ levelOf k ⌝ }
     requires { ⌜ 0 < k ⌝ }
+    requires { ⌜ Offsets (g .cols) (now offsets) ⌝ }
     ensures { λ r. ⌜ (r < 8 → (isEqual g (now (elevations .entry)) cell r ≡ true)
         × (levelIn (size g) (now (work .entry)) (neighbour g cell r) ≡ 1)) ⌝ }
     ensures { λ r. ⌜ (8 ≤ r → (p : ℕ) → p < 8 → isEqual g (now (elevations .entry)) cell p ≡ true
@@ -128,7 +146,7 @@ fn beside_level_zero(g: Grid, elevations: &[i16], cell: usize, k: u32, work: &[u
     let mut found: usize = 8;
     let mut p: usize = 0;
     while p < 8 {
-        let m = beside(g, cell, p);
+        let m = beside(g, offsets, cell, p);
         found = pick(is_zero_at(elevations, k, m, work), p, found);
         p += 1;
     }
@@ -162,6 +180,7 @@ fn is_zero_at(elevations: &[i16], k: u32, m: usize, work: &[u32]) -> bool
 // Gives level 1 to the cell if it has no level and lies beside an equal cell of level 0.
 fn join(
     g: Grid,
+    offsets: &[usize; 8],
     elevations: &[i16],
     half: usize,
     cell: usize,
@@ -174,6 +193,7 @@ fn join(
     requires { ⌜ half + size g ≤ length (now work) ⌝ }
     requires { ⌜ cell < size g ⌝ }
     requires { ⌜ Joining g (now elevations) half (now work) cell tail ⌝ }
+    requires { ⌜ Offsets (g .cols) (now offsets) ⌝ }
     ensures { λ r. ⌜ Joining g (now (elevations .entry)) half (now (work .exit)) (cell + 1) r ⌝ }
 {
     if work[cell] != 0 {
@@ -183,40 +203,48 @@ fn join(
     if k == 0 {
         return tail;
     }
-    if beside_level_zero(g, elevations, cell, k, work) >= 8 {
+    if beside_level_zero(g, offsets, elevations, cell, k, work) >= 8 {
         return tail;
     }
     mark(half, tail, cell, 256, work)
 }
 
 // Finds the cells of level 1; how many there are.
-fn first_round(g: Grid, elevations: &[i16], half: usize, work: &mut [u32]) -> usize
+fn first_round(
+    g: Grid,
+    offsets: &[usize; 8],
+    elevations: &[i16],
+    half: usize,
+    work: &mut [u32],
+) -> usize
     requires { ⌜ length (now elevations) ≡ size g ⌝ }
     requires { ⌜ size g < 2 ^ 24 ⌝ }
     requires { ⌜ size g ≤ half ⌝ }
     requires { ⌜ half + size g ≤ length (now work) ⌝ }
     requires { ⌜ Seeded g (now elevations) (now work) ⌝ }
+    requires { ⌜ Offsets (g .cols) (now offsets) ⌝ }
     ensures { λ r. ⌜ Searching g (now (elevations .entry)) half (now (work .exit)) (size g) 0 r ⌝ }
 {
     let cells = elevations.len();
     let mut tail: usize = 0;
     let mut cell: usize = 0;
     while cell < cells {
-        tail = join(g, elevations, half, cell, tail, work);
+        tail = join(g, offsets, elevations, half, cell, tail, work);
         cell += 1;
     }
     tail
 }
 
 // Finds the level of every cell that has one, from the words of the cells of level 0 in the first half of the work buffer.
-pub fn levels(g: Grid, elevations: &[i16], work: &mut [u32])
+pub fn levels(g: Grid, offsets: &[usize; 8], elevations: &[i16], work: &mut [u32])
     requires { ⌜ length (now elevations) ≡ size g ⌝ }
     requires { ⌜ size g < 2 ^ 24 ⌝ }
     requires { ⌜ 4 * size g ≤ length (now work) ⌝ }
     requires { ⌜ Seeded g (now elevations) (now work) ⌝ }
+    requires { ⌜ Offsets (g .cols) (now offsets) ⌝ }
     ensures { λ r. ⌜ Levelled g (now (elevations .entry)) (now (work .exit)) ⌝ }
 {
     let half = work.len() / 2;
-    let tail = first_round(g, elevations, half, work);
-    empty_queue(g, elevations, half, tail, work);
+    let tail = first_round(g, offsets, elevations, half, work);
+    empty_queue(g, offsets, elevations, half, tail, work);
 }

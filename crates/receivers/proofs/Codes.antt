@@ -5,11 +5,11 @@ use mathlib.Core.Bool.{Bool, true, false, not, cond, _&&_}
 use mathlib.Core.List.{List}
 use Prim.Native.Nat.{ℕ, _+_, _-_, _*_, _/_, _%_, _^_, _≤_, _<_}
 use native.Mathlib.Omega.{arith}
-use native.Mathlib.Nat.{mul-comm, le-mul-of-pos-right}
 use native.Mathlib.Decide.{decLt}
 use lib.Dec.{eqb, ltb, lit<}
-use lib.ListN.{length, getD, take, set, replicate}
-use lib.Seq.{getD-take, length-take-le}
+use lib.ListN.{length, getD, take, set, replicate, length-set}
+use lib.Seq.{getD-take, length-take-le, getD-set-same, getD-set-other}
+use borrow.Author.Count.{below-more}
 use borrow.Author.Tests.{eqb-true, ltb-true}
 use Rattle.grid.specs.declared.Grid.{Grid}
 use Rattle.grid.specs.Below.{table, firstBelow}
@@ -18,10 +18,11 @@ use Rattle.grid.specs.Routes.{positionAt, hasCode, receiver, firstBadCode}
 use Rattle.grid_laws.proofs.Tests.{test, true-false, cond-true, cond-false, or-cases, or-none-left, or-none-right}
 use Rattle.grid_laws.proofs.Tests.{and-true, and-false-left, and-false-right, not-of-true, not-of-false, not-true-false}
 use Rattle.grid_laws.proofs.Below.{at-table, first-is, first-none, first-found, first-all}
-use Rattle.grid_laws.proofs.Neighbours.{down, right, at-eight, inner-neighbour}
+use Rattle.grid_laws.proofs.Neighbours.{at-eight, position-of-code}
 use Rattle.route_laws.specs.Receivers.{receiverMark, AllCodes}
 use Rattle.route_laws.proofs.Receivers.{code-below}
-use Rattle.cells.specs.Steps.{Inner}
+use Rattle.cells.specs.Steps.{downOf, rightOf, Inner, Offsets}
+use Rattle.cells.proofs.Steps.{inner-offset}
 use Rattle.receivers.specs.Written.{isAllowed, badTable, FirstBad, ReachTable}
 
 -- ---- the table of what is no code
@@ -87,19 +88,43 @@ module _ (g : Grid) (codes : List ℕ) where
           (first-all (size g) (λ c. not (eqb (getD codes c 0) 0) && not (hasCode codes c)) e c l)
       go (no f) (inr z) (inr h) = inl (lib.ListN.List·getD-eq-default codes 0 (let q : length codes ≤ c = omega arith in q))
 
--- ---- the table of reaches
-abbrev reachStores : ℕ → List ℕ
-reachStores cols =
-    set (set (set (set (set (set (set (replicate 256 0) 1 2) 2 (cols + 2)) 4 (2 * cols + 2)) 8 (2 * cols + 1)) 16 (2 * cols)) 32 cols) 128
-    1
+-- ---- the table of reaches, while it is written
+pub record ReachTo (offsets reach : List ℕ) (p : ℕ) : Type 0 where
+  pub within : p ≤ 8
+  pub long : length reach ≡ 256
+  pub at : (q : ℕ) → q < p → getD reach (codeAt q) 0 ≡ getD offsets q 0
 
-pub reach-table-is : (cols : ℕ) → ReachTable cols (reachStores cols)
-reach-table-is cols =
+codes-small : (p : ℕ) → p < 8 → codeAt p < 256
+codes-small = at-eight (λ p. codeAt p < 256) (lit< tt) (lit< tt) (lit< tt) (lit< tt) (lit< tt) (lit< tt) (lit< tt) (lit< tt)
+
+codes-differ : (p q : ℕ) → p < 8 → q < p → codeAt p ≡ codeAt q → ⊥
+codes-differ p q h l e =
+    let s : p ≡ q = sym (position-of-code p h) ∙ ap positionOf e ∙ position-of-code q (omega arith) in
+    let z : ⊥ = omega arith in
+    z
+
+pub reach-none : (offsets reach : List ℕ) → length reach ≡ 256 → ReachTo offsets reach 0
+reach-none offsets reach h = record { within = omega arith; long = h; at = λ q l. let z : ⊥ = omega arith in absurd z }
+
+pub code-small : (p k : ℕ) → p < 8 → k ≡ codeAt p → k < 256
+code-small p k h e = rw e (codes-small p h)
+
+pub reach-more : (offsets reach : List ℕ) (p k : ℕ) → p < 8 → k ≡ codeAt p → ReachTo offsets reach p →
+    ReachTo offsets (set reach k (getD offsets p 0)) (p + 1)
+reach-more offsets reach p k h e R =
     record {
-      long = refl;
-      at = at-eight (λ p. getD (reachStores cols) (codeAt p) 0 ≡ down p * cols + right p) (omega arith) (omega arith)
-          (omega arith) (omega arith) (omega arith) (omega arith) (omega arith) (omega arith);
+      within = omega arith;
+      long = length-set reach k (getD offsets p 0) ∙ R .long;
+      at =
+          below-more (λ q. getD (set reach k (getD offsets p 0)) (codeAt q) 0 ≡ getD offsets q 0) p
+          (λ q l. getD-set-other reach k (codeAt q) (getD offsets p 0) 0 (λ s. codes-differ p q h l (sym (s ∙ e))) ∙ R .at q l)
+          (subst (λ (x : ℕ). getD (set reach k (getD offsets p 0)) x 0 ≡ getD offsets p 0) e
+          (getD-set-same reach k (getD offsets p 0) 0 (rw (R .long) (code-small p k h e))));
     }
+
+pub reach-all : (offsets reach : List ℕ) (p : ℕ) → 8 ≤ p → ReachTo offsets reach p → (cols : ℕ) → Offsets cols offsets →
+    ReachTable cols reach
+reach-all offsets reach p h R cols o = record { long = R .long; at = λ q l. R .at q (omega arith) ∙ o q l }
 
 -- a code and its position
 pub code-of-position : (k : ℕ) → positionOf k < 8 → k ≡ codeAt (positionOf k)
@@ -107,7 +132,7 @@ unfolding positionOf
 code-of-position k h = eqb-true k (codeAt (firstBelow 8 (λ p. eqb k (codeAt p)))) (first-found 8 (λ p. eqb k (codeAt p)) h)
 
 pub reach-at : (cols : ℕ) (reach : List ℕ) (k : ℕ) → ReachTable cols reach → positionOf k < 8 →
-    getD reach k 0 ≡ down (positionOf k) * cols + right (positionOf k)
+    getD reach k 0 ≡ downOf (positionOf k) * cols + rightOf (positionOf k)
 reach-at cols reach k R h = ap (λ (x : ℕ). getD reach x 0) (code-of-position k h) ∙ R .at (positionOf k) h
 
 -- ---- the mark of a cell, by the tests of a program
@@ -152,9 +177,6 @@ module _ (g : Grid) (codes : List ℕ) (long : length codes ≡ size g) (all : A
         ∙ cond-true _ _ (has (receiver g codes c) (λ q. z (subst (λ (x : ℕ). getD codes x 0 ≡ 0) (sym is-receiver) q))) ∙ sym is-receiver)
 
 -- ---- the same, by a copy of the codes at the front of a buffer
-codes-small : (p : ℕ) → p < 8 → codeAt p < 256
-codes-small = at-eight (λ p. codeAt p < 256) (lit< tt) (lit< tt) (lit< tt) (lit< tt) (lit< tt) (lit< tt) (lit< tt) (lit< tt)
-
 module _ (g : Grid) (work : List ℕ) (long : size g ≤ length work) (all : AllCodes (take (size g) work)) (c : ℕ) (hc : c < size g) where
   in-copy : (d : ℕ) → d < size g → getD (take (size g) work) d 0 ≡ getD work d 0
   in-copy d h = getD-take (size g) work d 0 h
@@ -188,20 +210,10 @@ module _ (g : Grid) (work : List ℕ) (long : size g ≤ length work) (all : All
       pub copy-on : d < size g → (getD work d 0 ≡ 0 → ⊥) → d ≡ receiverMark g (take (size g) work) c
       copy-on h z = mark-on g (take (size g) work) long-copy all c coded pointed (λ q. z (sym (in-copy d h) ∙ q))
 
--- from a cell within the border: v lies beyond the first of the nine cells
-pub record Reached (g : Grid) (c p v : ℕ) : Type 0 where
-  pub cols-small : g .cols < 2 ^ 24
-  pub fits : c + v < 2 ^ 26
-  pub low : g .cols + 1 ≤ c + v
-  pub is : c + v - (g .cols + 1) ≡ neighbour g c p
-
-pub reached : (g : Grid) (c row col k : ℕ) (reach : List ℕ) → size g < 2 ^ 24 → c < size g → row ≡ c / g .cols → col ≡ c % g .cols →
-    positionOf k < 8 → ReachTable (g .cols) reach → Inner g row col → Reached g c (positionOf k) (getD reach k 0)
-reached g c row col k reach hs hc er eq hp R (a, b, d, e) =
-    let v = reach-at (g .cols) reach k R hp in
-    let w = inner-neighbour g c (positionOf k) hp (rw (sym er) a) (rw (sym er) b) (rw (sym eq) d) (rw (sym eq) e) in
-    let x = w .0 in
-    let y = w .1 in
-    let rows : 0 < g .rows = omega arith in
-    let l : g .cols ≤ size g = rw mul-comm (le-mul-of-pos-right (g .cols) rows) in
-    record { cols-small = omega arith; fits = omega arith; low = omega arith; is = omega arith }
+-- from a cell within the border: the neighbour lies at the table's offset
+pub reached : (g : Grid) (c row col k : ℕ) (reach : List ℕ) → size g < 2 ^ 24 → row ≡ c / g .cols → col ≡ c % g .cols →
+    positionOf k < 8 → ReachTable (g .cols) reach → Inner g row col →
+    (neighbour g c (positionOf k) + (g .cols + 1) ≡ c + getD reach k 0)
+    × ((neighbour g c (positionOf k) < size g) × (c + getD reach k 0 + (g .cols + 1) < 2 ^ 26))
+reached g c row col k reach hs er eq hp R i =
+    inner-offset g c (positionOf k) (getD reach k 0) hs (rw (sym er, sym eq) i) hp (reach-at (g .cols) reach k R hp)

@@ -8,7 +8,7 @@ use lib.ListN.{length, getD}
 use Rattle.grid.specs.declared.Grid.{Grid}
 use Rattle.grid.specs.Below.{table}
 use Rattle.grid.specs.Sheet.{codeAt, positionOf}
-use Rattle.grid_laws.proofs.Neighbours.{down, right}
+use Rattle.cells.specs.Steps.{downOf, rightOf}
 use Rattle.route_laws.specs.Receivers.{receiverMark}
 
 -- 0 or one of the eight
@@ -24,9 +24,10 @@ pub record FirstBad (codes : List ℕ) (r : ℕ) : Type 0 where
   pub below : (c : ℕ) → c < r → isAllowed (getD codes c 0) ≡ true
   pub at : r < length codes → isAllowed (getD codes r 0) ≡ false
 
+-- each code has the offset of its position
 pub record ReachTable (cols : ℕ) (reach : List ℕ) : Type 0 where
   pub long : length reach ≡ 256
-  pub at : (p : ℕ) → p < 8 → getD reach (codeAt p) 0 ≡ down p * cols + right p
+  pub at : (p : ℕ) → p < 8 → getD reach (codeAt p) 0 ≡ downOf p * cols + rightOf p
 
 -- the first i receivers stand from `base` on, and every other place is as at entry
 pub record WrittenTo (g : Grid) (codes : List ℕ) (base i : ℕ) (t₀ t : List ℕ) : Type 0 where

@@ -1,7 +1,7 @@
 // Question 11, and the list of receivers of a sheet of codes: for each cell the next cell of its route, size where the route ends there,
 // size + 1 where there is no code (`route_laws`, `specs/Receivers`). "A route .. ends at the first cell whose code points off the sheet or
 // at a cell with code 0." The list is written into the lent tail, from the codes, or from the copy of them that the counts call has in the
-// first half of the work buffer. Tables by code, made once for a sheet, say what is a code and how far its neighbour lies in the
+// first half of the work buffer. Tables by code, made once for a sheet, say what is a code and at which offset its neighbour lies in the
 // numbering, so only cells of the border look at rows and columns. Proof: each function gives one element of the definition, and a loop
 // collects them.
 use cells::Direction;
@@ -21,14 +21,14 @@ fn bad_table() -> [u8; 256]
 {
     let mut table = [1u8; 256];
     table[0] = 0;
-    table[1] = 0;
-    table[2] = 0;
-    table[4] = 0;
-    table[8] = 0;
-    table[16] = 0;
-    table[32] = 0;
-    table[64] = 0;
-    table[128] = 0;
+    table[Direction::NORTH_EAST as usize] = 0;
+    table[Direction::EAST as usize] = 0;
+    table[Direction::SOUTH_EAST as usize] = 0;
+    table[Direction::SOUTH as usize] = 0;
+    table[Direction::SOUTH_WEST as usize] = 0;
+    table[Direction::WEST as usize] = 0;
+    table[Direction::NORTH_WEST as usize] = 0;
+    table[Direction::NORTH as usize] = 0;
     table
 }
 
@@ -56,19 +56,18 @@ pub fn first_bad_code(g: Grid, codes: &[u8]) -> usize
     first_in(&table, codes)
 }
 
-// For each code how far its neighbour lies beyond the first of the nine cells round a cell, in the numbering.
+// For each code the offset of its neighbour.
 fn reach_table(cols: usize) -> [usize; 256]
     requires { ⌜ cols < 2 ^ 24 ⌝ }
     ensures { λ r. ⌜ ReachTable cols r ⌝ }
 {
+    let offsets = cells::offsets(cols);
     let mut table = [0usize; 256];
-    table[1] = 2;
-    table[2] = cols + 2;
-    table[4] = 2 * cols + 2;
-    table[8] = 2 * cols + 1;
-    table[16] = 2 * cols;
-    table[32] = cols;
-    table[128] = 1;
+    let mut p: usize = 0;
+    while p < 8 {
+        table[Direction::code(p) as usize] = offsets[p];
+        p += 1;
+    }
     table
 }
 

@@ -1,8 +1,8 @@
 // Drops to the neighbours of a cell ("Directions"): which is the largest when weighted by distance, the sum of the codes that have it, and
 // the table that chooses one code for each sum. The comparison is one of products of 64 bits. Four sides are equally far, and so are four
 // corners: the lowest side and the lowest corner have the largest drops of each, and one comparison decides between them, for whole rows
-// without a branch. Cells of other proportions will make three such classes of the two. The table's rule is computed once, for all 256
-// entries.
+// without a branch. The table's rule is computed once, for all 256 entries.
+use cells::Direction;
 use grid::Grid;
 ghost use mathlib.Core.Path.{_≡_};
 ghost use mathlib.Core.Bool.{cond};
@@ -12,11 +12,11 @@ ghost use lib.ListN.{length, getD};
 ghost use Rattle.grid.specs.Sheet.{size};
 ghost use Rattle.grid.specs.Directions.{squaredDistance, choice};
 ghost use Rattle.cells.specs.Around.{KnownTo};
-ghost use Rattle.cells.specs.Steps.{Inner};
+ghost use Rattle.cells.specs.Steps.{Inner, Offsets};
 ghost use Rattle.slopes.specs.Steepest.{choices as choices', keysOf, steepestIn, markedIn, innerSum};
 ghost use Rattle.slopes.specs.Steepest.{lowerOf, lowestOf, membersOf, lowSide, lowCorner, sideCodes, cornerCodes, leadsOf, largerOf};
 
-// "One table of 256 entries gives the choice for every sum".
+// "one table of 256 entries gives the choice for every sum"
 pub const CHOICE: [u8; 256] = [
     0,
     1,
@@ -350,12 +350,15 @@ fn fall(own: u16, key: u16) -> u16
     if key < own { own - key } else { 0 }
 }
 
-// Which of four keys are `low`, as a sum of the codes of every other position: 1, 4, 16, 64.
+// Which of four keys are `low`, as a sum of the codes of the corners; the code of a side is twice that of the corner before it.
 fn members(low: u16, a: u16, b: u16, c: u16, d: u16) -> u16
     ensures { λ r. ⌜ r ≡ membersOf low a b c d ⌝ }
     ensures { λ r. ⌜ r ≤ 85 ⌝ }
 {
-    pick(a == low, 1, 0) + pick(b == low, 4, 0) + pick(c == low, 16, 0) + pick(d == low, 64, 0)
+    pick(a == low, Direction::NORTH_EAST as u16, 0)
+        + pick(b == low, Direction::SOUTH_EAST as u16, 0)
+        + pick(c == low, Direction::SOUTH_WEST as u16, 0)
+        + pick(d == low, Direction::NORTH_WEST as u16, 0)
 }
 
 // Whether a drop `a` at a squared distance `da` is above 0, and a drop `b` at `db` is not larger.
@@ -424,19 +427,20 @@ fn marked_of(g: Grid, own: u16, keys: &[u16; 8]) -> u16
     pick(low == 0, 256, sum)
 }
 
-// The keys around a cell within the border, which lie at fixed distances.
-fn keys_of(g: Grid, elevations: &[i16], cell: usize) -> [u16; 8]
+// The keys around a cell within the border.
+fn keys_of(g: Grid, offsets: &[usize; 8], elevations: &[i16], cell: usize) -> [u16; 8]
     requires { ⌜ length (now elevations) ≡ size g ⌝ }
     requires { ⌜ size g < 2 ^ 24 ⌝ }
     requires { ⌜ cell < size g ⌝ }
     requires { ⌜ Inner g (cell / g .cols) (cell % g .cols) ⌝ }
+    requires { ⌜ Offsets (g .cols) (now offsets) ⌝ }
     ensures { λ r. ⌜ r ≡ keysOf g (now (elevations .entry)) cell ⌝ }
     ensures { λ r. ⌜ KnownTo g (now (elevations .entry)) cell 8 ⌝ }
 {
     let mut keys = [0u16; 8];
     let mut p: usize = 0;
     while p < 8 {
-        keys[p] = cells::short_key(elevations[cells::beside(g, cell, p)]);
+        keys[p] = cells::short_key(elevations[cells::beside(g, offsets, cell, p)]);
         p += 1;
     }
     keys
@@ -444,30 +448,39 @@ fn keys_of(g: Grid, elevations: &[i16], cell: usize) -> [u16; 8]
 
 // For a cell within the border: "If the largest weighted drop is above 0, add the codes of all neighbours that have it", 0 where it is
 // not; 256 for an outlet and for a void.
-fn inner_sum(g: Grid, elevations: &[i16], cell: usize) -> u16
+fn inner_sum(g: Grid, offsets: &[usize; 8], elevations: &[i16], cell: usize) -> u16
     requires { ⌜ length (now elevations) ≡ size g ⌝ }
     requires { ⌜ size g < 2 ^ 24 ⌝ }
     requires { ⌜ cell < size g ⌝ }
     requires { ⌜ Inner g (cell / g .cols) (cell % g .cols) ⌝ }
+    requires { ⌜ Offsets (g .cols) (now offsets) ⌝ }
     ensures { λ r. ⌜ r ≡ innerSum g (now (elevations .entry)) cell ⌝ }
 {
-    let keys = keys_of(g, elevations, cell);
+    let keys = keys_of(g, offsets, elevations, cell);
     marked_of(g, cells::short_key(elevations[cell]), &keys)
 }
 
 // The sums of the cells from `from` to `to`, a part of one row within the border.
-pub fn row_sums(g: Grid, elevations: &[i16], from: usize, to: usize, work: &mut [u32])
+pub fn row_sums(
+    g: Grid,
+    offsets: &[usize; 8],
+    elevations: &[i16],
+    from: usize,
+    to: usize,
+    work: &mut [u32],
+)
     requires { ⌜ length (now elevations) ≡ size g ⌝ }
     requires { ⌜ size g < 2 ^ 24 ⌝ }
     requires { ⌜ to ≤ size g ⌝ }
     requires { ⌜ to ≤ length (now work) ⌝ }
     requires { ⌜ ((c : ℕ) → from ≤ c → c < to → Inner g (c / g .cols) (c % g .cols)) ⌝ }
+    requires { ⌜ Offsets (g .cols) (now offsets) ⌝ }
     ensures { λ r. ⌜ ((c : ℕ) → from ≤ c → c < to → getD (now (work .exit)) c 0 ≡ innerSum g (now (elevations .entry)) c) ⌝ }
     ensures { λ r. ⌜ ((c : ℕ) → c < from → getD (now (work .exit)) c 0 ≡ getD (now (work .entry)) c 0) ⌝ }
 {
     let mut cell = from;
     while cell < to {
-        work[cell] = inner_sum(g, elevations, cell) as u32;
+        work[cell] = inner_sum(g, offsets, elevations, cell) as u32;
         cell += 1;
     }
 }

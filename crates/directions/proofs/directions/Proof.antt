@@ -21,7 +21,7 @@ directions-into-requires c κs =
     let k = yes .before .before .check in
     let a = yes .before .before .before .before .before .args in
     let s = accepted-sizes (a .g) (a .elevations .now) (a .codes .now) (a .work .now) (k .result) (k .ensures) (yes .if1 .left) in
-    (s .0, (s .1, (s .2, s .3)))
+    (s .0, (s .1, (s .2, (s .3, s .4))))
 
 cast-t15 : tie.Need-cast-t15
 cast-t15 c =

@@ -14,25 +14,22 @@ use Rattle.flood.proofs.drain.Lts as lts
 use Rattle.flood.proofs.spread.Reads as spread-reads
 
 abbrev Inv-loop : tie.InvT-loop
-Inv-loop g half k v start len ways work₀ head₀ tail₀ work head tail =
+Inv-loop g half k v start len offsets work₀ head₀ tail₀ work head tail =
     (length work ≡ length work₀) × (frontOf (size g) work ≡ frontOf (size g) work₀)
     × During g (frontOf (size g) work₀) (backOf (size g) half work) k v head tail
 
 abbrev μ-loop : tie.MeasureT-loop
-μ-loop g half k v start len ways work₀ head₀ tail₀ work head tail = size g - head
+μ-loop g half k v start len offsets work₀ head₀ tail₀ work head tail = size g - head
 
 loop-holds : tie.Need-loop-holds Inv-loop μ-loop
-loop-holds c = (refl, refl, c .before .pre .1 .1 .1 .1 .1 .0)
+loop-holds c = (refl, refl, c .before .pre .1 .1 .1 .1 .0)
 
 spread-requires : tie.Need-spread-requires Inv-loop μ-loop
 spread-requires c κs =
     let p = c .before .before .before .before .pre in
     let l = c .before .before .loop in (
       p .0,
-      (
-        p .1 .0,
-        (p .1 .1 .0, (omega arith, (p .1 .1 .1 .1 .0, (c .before .loop-test .taken, (rw (l .inv .1) (l .inv .2), p .1 .1 .1 .1 .1 .1))))),
-      ),
+      (p .1 .0, (omega arith, (p .1 .1 .1 .0, (c .before .loop-test .taken, (rw (l .inv .1) (l .inv .2), p .1 .1 .1 .1 .1))))),
     )
 
 add-head : tie.Need-add-head Inv-loop μ-loop

@@ -11,22 +11,22 @@ use Rattle.flood.proofs.flood.Statement.{statement}
 use Rattle.flood.proofs.flood.Tie as tie
 use Rattle.flood.proofs.flood.Reads as reads
 use Rattle.flood.proofs.flood.Lts as lts
-use Rattle.flood.proofs.distances.Reads as distances-reads
+use Rattle.cells.proofs.offsets.Reads as offsets-reads
 use Rattle.flood.proofs.visit.Reads as visit-reads
 
 abbrev Inv-loop : tie.InvT-loop
-Inv-loop g half work₀ n ways len₀ k₀ work len k =
+Inv-loop g half work₀ n offsets len₀ k₀ work len k =
     (k ≤ size g) × (length work ≡ length work₀) × (frontOf (size g) work ≡ frontOf (size g) work₀)
     × Between g (frontOf (size g) work₀) (backOf (size g) half work) k len
 
 abbrev μ-loop : tie.MeasureT-loop
-μ-loop g half work₀ n ways len₀ k₀ work len k = size g - k
+μ-loop g half work₀ n offsets len₀ k₀ work len k = size g - k
 
 mul-n : tie.Need-mul-n Inv-loop μ-loop
 mul-n c = omega arith
 
-distances-requires : tie.Need-distances-requires Inv-loop μ-loop
-distances-requires c κs = c .before .before .pre .1 .0
+offsets-requires : tie.Need-offsets-requires Inv-loop μ-loop
+offsets-requires c κs = c .before .before .pre .1 .0
 
 loop-holds : tie.Need-loop-holds Inv-loop μ-loop
 loop-holds c =
@@ -38,8 +38,8 @@ visit-requires c κs =
     let s = c .before .before .before .before .before .before .before in
     let p = s .pre in
     let l = c .before .before .before .loop in
-    let d = c .before .before .before .before .distances .ensures in
-    (p .0, (p .1 .0, (p .1 .1 .0, (omega arith, (omega arith, (rw (l .inv .2) (p .1 .1 .1 .1 .0), (rw (l .inv .2) (l .inv .3), d)))))))
+    let d = c .before .before .before .before .offsets .ensures in
+    (p .0, (p .1 .1 .0, (omega arith, (omega arith, (rw (l .inv .2) (p .1 .1 .1 .1 .0), (rw (l .inv .2) (l .inv .3), d))))))
 
 add-k : tie.Need-add-k Inv-loop μ-loop
 add-k c = omega arith
@@ -70,7 +70,7 @@ flood-spec =
     Inv-loop
     μ-loop
     mul-n
-    distances-requires
+    offsets-requires
     loop-holds
     visit-requires
     add-k

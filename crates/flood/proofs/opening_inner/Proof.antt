@@ -12,15 +12,15 @@ use Rattle.flood.proofs.opening_inner.Statement.{statement}
 use Rattle.flood.proofs.opening_inner.Tie as tie
 use Rattle.flood.proofs.opening_inner.Reads as reads
 use Rattle.flood.proofs.opening_inner.Lts as lts
-use Rattle.flood.proofs.near_inner.Reads as near-inner-reads
+use Rattle.cells.proofs.beside.Reads as beside-reads
 use Rattle.flood.proofs.opens.Reads as opens-reads
 
 abbrev Inv-loop : tie.InvT-loop
-Inv-loop g half c ways work n p₀ p =
+Inv-loop g half c offsets work n p₀ p =
     (p ≤ 8) × ((q : ℕ) → q < p → Opens (size g) (frontOf (size g) work) (backOf (size g) half work) (neighbour g c q) → ⊥)
 
 abbrev μ-loop : tie.MeasureT-loop
-μ-loop g half c ways work n p₀ p = 8 - p
+μ-loop g half c offsets work n p₀ p = 8 - p
 
 mul-n : tie.Need-mul-n Inv-loop μ-loop
 mul-n c = omega arith
@@ -28,22 +28,22 @@ mul-n c = omega arith
 loop-holds : tie.Need-loop-holds Inv-loop μ-loop
 loop-holds c = (omega arith, λ q h. let z : ⊥ = omega arith in absurd z)
 
-near-inner-requires : tie.Need-near-inner-requires Inv-loop μ-loop
-near-inner-requires c κs =
+beside-requires : tie.Need-beside-requires Inv-loop μ-loop
+beside-requires c κs =
     let s = c .before .before .before .before in
-    (s .pre .0, (s .pre .1 .0, (s .pre .1 .1 .1 .1 .0, (s .pre .1 .1 .1 .1 .1, c .loop-test .taken))))
+    (s .pre .0, (s .pre .1 .1 .1 .0, (c .loop-test .taken, s .pre .1 .1 .1 .1)))
 
 opens-requires : tie.Need-opens-requires Inv-loop μ-loop
-opens-requires c κs = (c .before .before .before .before .before .pre .1 .1 .0, c .near-inner .ensures .1)
+opens-requires c κs = (c .before .before .before .before .before .pre .1 .0, c .beside .ensures .1)
 
 returns : tie.Need-returns Inv-loop μ-loop
 returns c =
     let s = c .before .before .before .before .before .before .before in
     let a = s .args in
     let l = c .before .before .before .before .loop in
-    let o = (rw (c .before .before .near-inner .ensures .0) at (c .before .opens .ensures .0 (c .if1 .taken))) in (
+    let o = (rw (c .before .before .beside .ensures .0) at (c .before .opens .ensures .0 (c .if1 .taken))) in (
       λ e. opening-of (a .g) (frontOf (size (a .g)) (a .work .now)) (backOf (size (a .g)) (a .half) (a .work .now)) (a .c)
-          (s .pre .1 .1 .1 .0) (l .p) (omega arith) o,
+          (s .pre .1 .1 .0) (l .p) (omega arith) o,
       λ e. absurd (true≢false e),
     )
 
@@ -57,7 +57,7 @@ loop-again : tie.Need-loop-again Inv-loop μ-loop
 loop-again c = (
   omega arith,
   below-more _ _ (c .before .before .before .before .loop .inv .1)
-      (rw (c .before .before .near-inner .ensures .0) at (c .before .opens .ensures .1 (c .if1 .left))),
+      (rw (c .before .before .beside .ensures .0) at (c .before .opens .ensures .1 (c .if1 .left))),
 )
 
 returns-2 : tie.Need-returns-2 Inv-loop μ-loop
@@ -76,7 +76,7 @@ opening-inner-spec =
     μ-loop
     mul-n
     loop-holds
-    near-inner-requires
+    beside-requires
     opens-requires
     returns
     add-p

@@ -1,4 +1,4 @@
--- Within the border the distances serve, on it the steps one by one.
+-- Within the border the offsets serve, on it the steps one by one.
 use native.Mathlib.Omega.{arith}
 use native.Mathlib.Nat.{div-le-self, mod-le}
 use Prim.Native.Nat.{_+_}
@@ -18,19 +18,19 @@ add-x : tie.Need-add-x
 add-x c =
     let s = c .before in
     let a = s .args in
-    omega (arith, first-less (a .g) (a .half) (a .k) (a .v) (a .head) (a .len) _ (a .work .now) (s .pre .1 .1 .1 .1 .1 .1 .0))
+    omega (arith, first-less (a .g) (a .half) (a .k) (a .v) (a .head) (a .len) _ (a .work .now) (s .pre .1 .1 .1 .1 .1 .0))
 
 mul-x : tie.Need-mul-x
 mul-x c =
     let s = c .before in
     let a = s .args in
-    omega (arith, first-less (a .g) (a .half) (a .k) (a .v) (a .head) (a .len) _ (a .work .now) (s .pre .1 .1 .1 .1 .1 .1 .0))
+    omega (arith, first-less (a .g) (a .half) (a .k) (a .v) (a .head) (a .len) _ (a .work .now) (s .pre .1 .1 .1 .1 .1 .0))
 
 slice-read-x : tie.Need-slice-read-x
 slice-read-x c =
     let s = c .before .before in
     let a = s .args in
-    omega (arith, first-less (a .g) (a .half) (a .k) (a .v) (a .head) (a .len) _ (a .work .now) (s .pre .1 .1 .1 .1 .1 .1 .0))
+    omega (arith, first-less (a .g) (a .half) (a .k) (a .v) (a .head) (a .len) _ (a .work .now) (s .pre .1 .1 .1 .1 .1 .0))
 
 cast-x : tie.Need-cast-x
 cast-x c =
@@ -38,8 +38,8 @@ cast-x c =
     let a = s .args in
     omega (
       arith,
-      first-on (a .g) (a .half) (a .k) (a .v) (a .head) (a .len) _ (a .work .now) (s .pre .1 .1 .1 .1 .1 .1 .0)
-          (s .pre .1 .1 .1 .1 .1 .0),
+      first-on (a .g) (a .half) (a .k) (a .v) (a .head) (a .len) _ (a .work .now) (s .pre .1 .1 .1 .1 .1 .0)
+          (s .pre .1 .1 .1 .1 .0),
     )
 
 div-is-inner : tie.Need-div-is-inner
@@ -47,21 +47,21 @@ div-is-inner c =
     let s = c .before .before in
     let a = s .args in
     cols-positive (a .g) _
-    (first-on (a .g) (a .half) (a .k) (a .v) (a .head) (a .len) _ (a .work .now) (s .pre .1 .1 .1 .1 .1 .1 .0) (s .pre .1 .1 .1 .1 .1 .0))
+    (first-on (a .g) (a .half) (a .k) (a .v) (a .head) (a .len) _ (a .work .now) (s .pre .1 .1 .1 .1 .1 .0) (s .pre .1 .1 .1 .1 .0))
 
 rem-is-inner : tie.Need-rem-is-inner
 rem-is-inner c =
     let s = c .before .before in
     let a = s .args in
     cols-positive (a .g) _
-    (first-on (a .g) (a .half) (a .k) (a .v) (a .head) (a .len) _ (a .work .now) (s .pre .1 .1 .1 .1 .1 .1 .0) (s .pre .1 .1 .1 .1 .1 .0))
+    (first-on (a .g) (a .half) (a .k) (a .v) (a .head) (a .len) _ (a .work .now) (s .pre .1 .1 .1 .1 .1 .0) (s .pre .1 .1 .1 .1 .0))
 
 is-inner-requires : tie.Need-is-inner-requires
 is-inner-requires c κs =
     let s = c .before .before in
     let a = s .args in
-    let h = first-on (a .g) (a .half) (a .k) (a .v) (a .head) (a .len) _ (a .work .now) (s .pre .1 .1 .1 .1 .1 .1 .0)
-    (s .pre .1 .1 .1 .1 .1 .0) in
+    let h = first-on (a .g) (a .half) (a .k) (a .v) (a .head) (a .len) _ (a .work .now) (s .pre .1 .1 .1 .1 .1 .0)
+    (s .pre .1 .1 .1 .1 .0) in
     let x = getD (a .work .now) (a .half + a .head) 0 in
     (omega (arith, div-le-self x (a .g .cols)), omega (arith, mod-le x (a .g .cols)))
 
@@ -71,9 +71,9 @@ spread-inner-requires c κs =
     let a = s .args in
     let p = s .pre in
     let i = c .before .before .is-inner .ensures (c .before .if1 .taken) in
-    let d = spread-start (a .g) (a .half) (a .k) (a .v) (a .head) (a .len) _ (a .work .now) (p .1 .1 .1 .1 .1 .1 .0)
-    (p .1 .1 .1 .1 .1 .0) in
-    (p .0, (p .1 .0, (p .1 .1 .0, (p .1 .1 .1 .0, (p .1 .1 .1 .1 .0, (d, (i, p .1 .1 .1 .1 .1 .1 .1)))))))
+    let d = spread-start (a .g) (a .half) (a .k) (a .v) (a .head) (a .len) _ (a .work .now) (p .1 .1 .1 .1 .1 .0)
+    (p .1 .1 .1 .1 .0) in
+    (p .0, (p .1 .0, (p .1 .1 .0, (p .1 .1 .1 .0, (d, (i, p .1 .1 .1 .1 .1 .1))))))
 
 same-length : tie.Need-same-length
 same-length c = search needs
@@ -86,10 +86,10 @@ spread-border-requires c κs =
     let s = c .before .before .before .before .before in
     let a = s .args in
     let p = s .pre in
-    let d = spread-start (a .g) (a .half) (a .k) (a .v) (a .head) (a .len) _ (a .work .now) (p .1 .1 .1 .1 .1 .1 .0)
-    (p .1 .1 .1 .1 .1 .0) in
-    let h = first-on (a .g) (a .half) (a .k) (a .v) (a .head) (a .len) _ (a .work .now) (p .1 .1 .1 .1 .1 .1 .0) (p .1 .1 .1 .1 .1 .0) in
-    (p .0, (p .1 .1 .0, (p .1 .1 .1 .0, (p .1 .1 .1 .1 .0, (d, h)))))
+    let d = spread-start (a .g) (a .half) (a .k) (a .v) (a .head) (a .len) _ (a .work .now) (p .1 .1 .1 .1 .1 .0)
+    (p .1 .1 .1 .1 .0) in
+    let h = first-on (a .g) (a .half) (a .k) (a .v) (a .head) (a .len) _ (a .work .now) (p .1 .1 .1 .1 .1 .0) (p .1 .1 .1 .1 .0) in
+    (p .0, (p .1 .0, (p .1 .1 .0, (p .1 .1 .1 .0, (d, h)))))
 
 same-length-2 : tie.Need-same-length-2
 same-length-2 c = search needs

@@ -11,38 +11,38 @@ use Rattle.flood.proofs.spread_inner.Statement.{statement}
 use Rattle.flood.proofs.spread_inner.Tie as tie
 use Rattle.flood.proofs.spread_inner.Reads as reads
 use Rattle.flood.proofs.spread_inner.Lts as lts
-use Rattle.flood.proofs.near_inner.Reads as near-inner-reads
+use Rattle.cells.proofs.beside.Reads as beside-reads
 use Rattle.flood.proofs.touch.Reads as touch-reads
 
 abbrev Inv-loop : tie.InvT-loop
-Inv-loop g half k v head len x ways work₀ n tail₀ p₀ work tail p =
+Inv-loop g half k v head len x offsets work₀ n tail₀ p₀ work tail p =
     (p ≤ 8) × (length work ≡ length work₀) × (frontOf (size g) work ≡ frontOf (size g) work₀)
     × Spread g (frontOf (size g) work₀) (backOf (size g) half work) k v head tail x p
 
 abbrev μ-loop : tie.MeasureT-loop
-μ-loop g half k v head len x ways work₀ n tail₀ p₀ work tail p = 8 - p
+μ-loop g half k v head len x offsets work₀ n tail₀ p₀ work tail p = 8 - p
 
 mul-n : tie.Need-mul-n Inv-loop μ-loop
 mul-n c = omega arith
 
 loop-holds : tie.Need-loop-holds Inv-loop μ-loop
-loop-holds c = (omega arith, refl, refl, c .before .before .pre .1 .1 .1 .1 .1 .0)
+loop-holds c = (omega arith, refl, refl, c .before .before .pre .1 .1 .1 .1 .0)
 
-near-inner-requires : tie.Need-near-inner-requires Inv-loop μ-loop
-near-inner-requires c κs =
+beside-requires : tie.Need-beside-requires Inv-loop μ-loop
+beside-requires c κs =
     let s = c .before .before .before .before in
-    (s .pre .0, (s .pre .1 .0, (s .pre .1 .1 .1 .1 .1 .1 .0, (s .pre .1 .1 .1 .1 .1 .1 .1, c .loop-test .taken))))
+    (s .pre .0, (s .pre .1 .1 .1 .1 .1 .0, (c .loop-test .taken, s .pre .1 .1 .1 .1 .1 .1)))
 
 touch-requires : tie.Need-touch-requires Inv-loop μ-loop
 touch-requires c κs =
     let s = c .before .before .before .before .before .before in
     let a = s .args in
     let l = c .before .before .before .loop in
-    let q = c .before .near-inner .ensures .1 in (
+    let q = c .before .beside .ensures .1 in (
       s .pre .0,
       (
-        s .pre .1 .1 .0,
-        (omega arith, (s .pre .1 .1 .1 .1 .0, (during-room (a .g) _ _ (a .k) (a .v) (a .head) (l .tail) (l .inv .3 .during), q))),
+        s .pre .1 .0,
+        (omega arith, (s .pre .1 .1 .1 .0, (during-room (a .g) _ _ (a .k) (a .v) (a .head) (l .tail) (l .inv .3 .during), q))),
       ),
     )
 
@@ -57,7 +57,7 @@ loop-again c =
     let a = c .before .before .before .before .before .before .before .before .before .args in
     let l = c .before .before .before .before .before .before .loop in
     let t = c .before .before .touch in
-    let e = c .before .before .before .before .near-inner .ensures .0 in (
+    let e = c .before .before .before .before .beside .ensures .0 in (
       omega arith,
       t .kept .1 .1 .1 .1 .1 .0 ∙ l .inv .1,
       t .ensures .0 ∙ l .inv .2,
@@ -81,7 +81,7 @@ spread-inner-spec =
     μ-loop
     mul-n
     loop-holds
-    near-inner-requires
+    beside-requires
     touch-requires
     add-p
     loop-less

@@ -30,8 +30,8 @@ cast-c c =
     let a = s .args in
     omega (
       arith,
-      cell-on (a .g) (a .half) (a .k) (a .len) (a .work .now) (s .pre .1 .1 .0) (s .pre .1 .1 .1 .0) (s .pre .1 .1 .1 .1 .0)
-          (s .pre .1 .1 .1 .1 .1 .0),
+      cell-on (a .g) (a .half) (a .k) (a .len) (a .work .now) (s .pre .1 .0) (s .pre .1 .1 .0) (s .pre .1 .1 .1 .0)
+          (s .pre .1 .1 .1 .1 .0),
     )
 
 mul-v : tie.Need-mul-v
@@ -40,8 +40,8 @@ mul-v c =
     let a = s .args in
     omega (
       arith,
-      cell-on (a .g) (a .half) (a .k) (a .len) (a .work .now) (s .pre .1 .1 .0) (s .pre .1 .1 .1 .0) (s .pre .1 .1 .1 .1 .0)
-          (s .pre .1 .1 .1 .1 .1 .0),
+      cell-on (a .g) (a .half) (a .k) (a .len) (a .work .now) (s .pre .1 .0) (s .pre .1 .1 .0) (s .pre .1 .1 .1 .0)
+          (s .pre .1 .1 .1 .1 .0),
     )
 
 slice-read-v : tie.Need-slice-read-v
@@ -50,8 +50,8 @@ slice-read-v c =
     let a = s .args in
     omega (
       arith,
-      cell-on (a .g) (a .half) (a .k) (a .len) (a .work .now) (s .pre .1 .1 .0) (s .pre .1 .1 .1 .0) (s .pre .1 .1 .1 .1 .0)
-          (s .pre .1 .1 .1 .1 .1 .0),
+      cell-on (a .g) (a .half) (a .k) (a .len) (a .work .now) (s .pre .1 .0) (s .pre .1 .1 .0) (s .pre .1 .1 .1 .0)
+          (s .pre .1 .1 .1 .1 .0),
     )
 
 returns : tie.Need-returns
@@ -59,8 +59,8 @@ returns c =
     let s = c .before .before .before .before .before in
     let a = s .args in (
       refl,
-      visit-void (a .g) (a .half) (a .k) (a .len) (a .work .now) (s .pre .1 .1 .0) (s .pre .1 .1 .1 .0) (s .pre .1 .1 .1 .1 .0)
-          (s .pre .1 .1 .1 .1 .1 .0) (s .pre .1 .1 .1 .1 .1 .1 .0) (c .if1 .taken),
+      visit-void (a .g) (a .half) (a .k) (a .len) (a .work .now) (s .pre .1 .0) (s .pre .1 .1 .0) (s .pre .1 .1 .1 .0)
+          (s .pre .1 .1 .1 .1 .0) (s .pre .1 .1 .1 .1 .1 .0) (c .if1 .taken),
     )
 
 returns-2 : tie.Need-returns-2
@@ -68,17 +68,17 @@ returns-2 c =
     let s = c .before .before .before .before .before .before in
     let a = s .args in (
       refl,
-      visit-reached (a .g) (a .half) (a .k) (a .len) (a .work .now) (s .pre .1 .1 .0) (s .pre .1 .1 .1 .0) (s .pre .1 .1 .1 .1 .0)
-          (s .pre .1 .1 .1 .1 .1 .0) (s .pre .1 .1 .1 .1 .1 .1 .0) (c .if2 .taken),
+      visit-reached (a .g) (a .half) (a .k) (a .len) (a .work .now) (s .pre .1 .0) (s .pre .1 .1 .0) (s .pre .1 .1 .1 .0)
+          (s .pre .1 .1 .1 .1 .0) (s .pre .1 .1 .1 .1 .1 .0) (c .if2 .taken),
     )
 
 is-opening-requires : tie.Need-is-opening-requires
 is-opening-requires c κs =
     let s = c .before .before .before .before .before .before .before in
     let a = s .args in
-    let q = visit-cell (a .g) (a .half) (a .k) (a .len) (a .work .now) (s .pre .1 .1 .0) (s .pre .1 .1 .1 .0) (s .pre .1 .1 .1 .1 .0)
-    (s .pre .1 .1 .1 .1 .1 .0) (s .pre .1 .1 .1 .1 .1 .1 .0) (c .before .before .if1 .left) (c .before .if2 .left) in
-    (s .pre .0, (s .pre .1 .0, (omega arith, (q, s .pre .1 .1 .1 .1 .1 .1 .1))))
+    let q = visit-cell (a .g) (a .half) (a .k) (a .len) (a .work .now) (s .pre .1 .0) (s .pre .1 .1 .0) (s .pre .1 .1 .1 .0)
+    (s .pre .1 .1 .1 .1 .0) (s .pre .1 .1 .1 .1 .1 .0) (c .before .before .if1 .left) (c .before .if2 .left) in
+    (s .pre .0, (omega arith, (q, s .pre .1 .1 .1 .1 .1 .1)))
 
 same-length : tie.Need-same-length
 same-length c = search needs
@@ -88,8 +88,8 @@ returns-3 c =
     let s = c .before .before .before .before .before .before .before .before .before in
     let a = s .args in (
       refl,
-      visit-closed (a .g) (a .half) (a .k) (a .len) (a .work .now) (s .pre .1 .1 .0) (s .pre .1 .1 .1 .0) (s .pre .1 .1 .1 .1 .0)
-          (s .pre .1 .1 .1 .1 .1 .0) (s .pre .1 .1 .1 .1 .1 .1 .0) (c .before .is-opening .ensures .1 (not-true _ (c .if3 .taken))),
+      visit-closed (a .g) (a .half) (a .k) (a .len) (a .work .now) (s .pre .1 .0) (s .pre .1 .1 .0) (s .pre .1 .1 .1 .0)
+          (s .pre .1 .1 .1 .1 .0) (s .pre .1 .1 .1 .1 .1 .0) (c .before .is-opening .ensures .1 (not-true _ (c .if3 .taken))),
     )
 
 reach-requires : tie.Need-reach-requires
@@ -97,11 +97,11 @@ reach-requires c κs =
     let s = c .before .before .before .before .before .before .before .before .before .before in
     let a = s .args in
     let low = c .before .before .before .before .if2 .left in
-    let room = visit-room (a .g) (a .half) (a .k) (a .len) (a .work .now) (s .pre .1 .1 .0) (s .pre .1 .1 .1 .0) (s .pre .1 .1 .1 .1 .0)
-    (s .pre .1 .1 .1 .1 .1 .0) (s .pre .1 .1 .1 .1 .1 .1 .0) (c .before .before .before .before .before .if1 .left) low in
-    let q = cell-on (a .g) (a .half) (a .k) (a .len) (a .work .now) (s .pre .1 .1 .0) (s .pre .1 .1 .1 .0) (s .pre .1 .1 .1 .1 .0)
-    (s .pre .1 .1 .1 .1 .1 .0) in
-    (s .pre .0, (s .pre .1 .1 .0, (s .pre .1 .1 .1 .0, (omega arith, (low, (q, room))))))
+    let room = visit-room (a .g) (a .half) (a .k) (a .len) (a .work .now) (s .pre .1 .0) (s .pre .1 .1 .0) (s .pre .1 .1 .1 .0)
+    (s .pre .1 .1 .1 .1 .0) (s .pre .1 .1 .1 .1 .1 .0) (c .before .before .before .before .before .if1 .left) low in
+    let q = cell-on (a .g) (a .half) (a .k) (a .len) (a .work .now) (s .pre .1 .0) (s .pre .1 .1 .0) (s .pre .1 .1 .1 .0)
+    (s .pre .1 .1 .1 .1 .0) in
+    (s .pre .0, (s .pre .1 .0, (s .pre .1 .1 .0, (omega arith, (low, (q, room))))))
 
 drain-requires : tie.Need-drain-requires
 drain-requires c κs =
@@ -112,9 +112,9 @@ drain-requires c κs =
     let opened = c .before .before .before .before .before .before .is-opening .ensures .0
     (not-false _ (c .before .before .before .before .before .if3 .left)) in
     let t = c .before .before .before .reach in
-    let r = visit-first (a .g) (a .half) (a .k) (a .len) (a .work .now) (s .pre .1 .1 .0) (s .pre .1 .1 .1 .0) (s .pre .1 .1 .1 .1 .0)
-    (s .pre .1 .1 .1 .1 .1 .0) (s .pre .1 .1 .1 .1 .1 .1 .0) some low opened (t .last .1 .1 .1 .1 .1 .0) (t .ensures .1) (t .ensures .0) in
-    (s .pre .0, (s .pre .1 .0, (s .pre .1 .1 .0, (omega arith, (omega arith, (r, s .pre .1 .1 .1 .1 .1 .1 .1))))))
+    let r = visit-first (a .g) (a .half) (a .k) (a .len) (a .work .now) (s .pre .1 .0) (s .pre .1 .1 .0) (s .pre .1 .1 .1 .0)
+    (s .pre .1 .1 .1 .1 .0) (s .pre .1 .1 .1 .1 .1 .0) some low opened (t .last .1 .1 .1 .1 .1 .0) (t .ensures .1) (t .ensures .0) in
+    (s .pre .0, (s .pre .1 .0, (omega arith, (omega arith, (r, s .pre .1 .1 .1 .1 .1 .1)))))
 
 same-length-2 : tie.Need-same-length-2
 same-length-2 c = search needs
@@ -130,8 +130,8 @@ returns-4 c =
     let opened = m .before .before .before .is-opening .ensures .0 (not-false _ (m .before .before .if3 .left)) in
     let t = m .reach in
     let d = c .before .before .drain in
-    visit-end (a .g) (a .half) (a .k) (a .len) (a .work .now) (s .pre .1 .1 .0) (s .pre .1 .1 .1 .0) (s .pre .1 .1 .1 .1 .0)
-    (s .pre .1 .1 .1 .1 .1 .0) (s .pre .1 .1 .1 .1 .1 .1 .0) some low opened (t .last .1 .1 .1 .1 .1 .0) (t .ensures .1) _ _ _
+    visit-end (a .g) (a .half) (a .k) (a .len) (a .work .now) (s .pre .1 .0) (s .pre .1 .1 .0) (s .pre .1 .1 .1 .0)
+    (s .pre .1 .1 .1 .1 .0) (s .pre .1 .1 .1 .1 .1 .0) some low opened (t .last .1 .1 .1 .1 .1 .0) (t .ensures .1) _ _ _
     (d .ensures .0) (d .ensures .1)
 
 pub visit-spec : {M : Type 1} → statement M

@@ -19,7 +19,7 @@ returns c =
     let s = c .before .before .before in
     let a = s .args in
     low-code (a .g) (a .elevations .now) (s .pre .0) (a .work .now) (s .pre .1 .1 .1 .1 .1 .0) (a .cell) (s .pre .1 .1 .1 .1 .0)
-    (s .pre .1 .1 .1 .1 .1 .1) (c .if1 .taken)
+    (s .pre .1 .1 .1 .1 .1 .1 .0) (c .if1 .taken)
 
 flat-sum-requires : tie.Need-flat-sum-requires
 flat-sum-requires c κs =
@@ -29,7 +29,7 @@ flat-sum-requires c κs =
     let levelled = s .pre .1 .1 .1 .1 .1 .0 in
     let held = high-data (a .g) (a .elevations .now) (s .pre .0) (a .work .now) levelled (a .cell) on (c .if1 .left) in
     let inner = high-within (a .g) (a .elevations .now) (s .pre .0) (a .work .now) levelled (a .cell) on (c .if1 .left) in
-    (s .pre .0, (s .pre .1 .0, (s .pre .1 .1 .0, (on, (inner, (held, (refl, c .if1 .left)))))))
+    (s .pre .0, (s .pre .1 .0, (s .pre .1 .1 .0, (on, (inner, (held, (refl, (c .if1 .left, s .pre .1 .1 .1 .1 .1 .1 .1))))))))
 
 choose-requires : tie.Need-choose-requires
 choose-requires c κs = search needs

@@ -10,10 +10,10 @@ use Rattle.flow.proofs.flat_sum.Statement.{statement}
 use Rattle.flow.proofs.flat_sum.Tie as tie
 
 abbrev Inv-loop : tie.InvT-loop
-Inv-loop g elevations work cell word k low sum₀ p₀ sum p = Summed g elevations work cell p sum
+Inv-loop g offsets elevations work cell word k low sum₀ p₀ sum p = Summed g elevations work cell p sum
 
 abbrev μ-loop : tie.MeasureT-loop
-μ-loop g elevations work cell word k low sum₀ p₀ sum p = 8 - p
+μ-loop g offsets elevations work cell word k low sum₀ p₀ sum p = 8 - p
 
 abbrev start : tie.After-key Inv-loop μ-loop → tie.Start Inv-loop μ-loop
 start c = c .before .before .before
@@ -41,7 +41,7 @@ key-requires : tie.Need-key-requires Inv-loop μ-loop
 key-requires c κs = search needs
 
 lowest-below-requires : tie.Need-lowest-below-requires Inv-loop μ-loop
-lowest-below-requires c κs = start c .pre .1 .1 .1 .1 .1 .1 .1
+lowest-below-requires c κs = start c .pre .1 .1 .1 .1 .1 .1 .1 .0
 
 loop-holds : tie.Need-loop-holds Inv-loop μ-loop
 loop-holds c = let a = start (c .before) .args in summed-none (a .g) (a .elevations .now) (a .work .now) (a .cell)
@@ -49,7 +49,7 @@ loop-holds c = let a = start (c .before) .args in summed-none (a .g) (a .elevati
 beside-requires : tie.Need-beside-requires Inv-loop μ-loop
 beside-requires c κs =
     let s = start (c .before .before .before) in
-    (s .pre .1 .0, (s .pre .1 .1 .1 .0, (s .pre .1 .1 .1 .1 .0, c .loop-test .taken)))
+    (s .pre .1 .0, (s .pre .1 .1 .1 .1 .0, (c .loop-test .taken, s .pre .1 .1 .1 .1 .1 .1 .1 .1)))
 
 is-below-requires : tie.Need-is-below-requires Inv-loop μ-loop
 is-below-requires c κs =
@@ -59,7 +59,7 @@ is-below-requires c κs =
     let s = start key in
     let len = s .pre .0 in
     let long = s .pre .1 .1 .0 in
-    (omega arith, (omega arith, (some key, (s .pre .1 .1 .1 .1 .1 .1 .1, low))))
+    (omega arith, (omega arith, (some key, (s .pre .1 .1 .1 .1 .1 .1 .1 .0, low))))
 
 with-code-requires : tie.Need-with-code-requires Inv-loop μ-loop
 with-code-requires c κs = (c .before .before .loop-test .taken, c .before .before .before .loop .inv .small)

@@ -13,7 +13,7 @@ outer-words-requires c κs =
       (
         s .pre .1 .0,
         (
-          s .pre .1 .1,
+          s .pre .1 .1 .0,
           ((omega arith, omega arith), ((λ i h k. few-rows (s .args .g) few i (omega arith)), λ i h. let z : ⊥ = omega arith in absurd z)),
         ),
       ),
@@ -37,7 +37,7 @@ outer-words-requires-2 c κs =
       (
         s .pre .1 .0,
         (
-          s .pre .1 .1,
+          s .pre .1 .1 .0,
           ((omega arith, omega arith), ((λ i h k. few-cols (s .args .g) few i (omega arith)), λ i h. let z : ⊥ = omega arith in absurd z)),
         ),
       ),
@@ -53,7 +53,11 @@ returns-2 c =
     λ i h. c .before .before .outer-words2 .ensures i (omega arith)
 
 seed-rows-requires : tie.Need-seed-rows-requires
-seed-rows-requires c κs = search needs
+seed-rows-requires c κs =
+    let s = c .before .before .before .before .before .before in
+    let tall = c .before .before .before .if1 .left in
+    let wide = c .before .if2 .left in
+    (s .pre .0, (s .pre .1 .0, (s .pre .1 .1 .0, ((omega arith, omega arith), s .pre .1 .1 .1))))
 
 same-length-3 : tie.Need-same-length-3
 same-length-3 c = search needs

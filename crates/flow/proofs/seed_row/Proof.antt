@@ -42,7 +42,13 @@ row-sums-requires c κs =
       s .pre .0,
       (
         s .pre .1 .0,
-        (omega (arith, room s), (omega (arith, room s), λ i h k. within-row g (s .args .row) (place .0) (place .1) i h (omega arith))),
+        (
+          omega (arith, room s),
+          (
+            omega (arith, room s),
+            ((λ i h k. within-row g (s .args .row) (place .0) (place .1) i h (omega arith)), s .pre .1 .1 .1 .1 .1 .1),
+          ),
+        ),
       ),
     )
 
@@ -52,7 +58,7 @@ inner-words-requires c κs =
     let s = c .before .before .before .before .before .before in
     let wide = s .pre .1 .1 .1 .1 .0 .2 in
     let long = s .pre .1 .1 .0 in
-    let same = sums .kept .1 .1 .1 .1 .0 in (
+    let same = sums .kept .1 .1 .1 .1 .1 .0 in (
       s .pre .0,
       (
         s .pre .1 .0,
@@ -60,7 +66,7 @@ inner-words-requires c κs =
           omega arith,
           (
             s .pre .1 .1 .1 .0,
-            ((omega arith, omega (arith, room s)), ((λ i h. sums .ensures .1 i h ∙ s .pre .1 .1 .1 .1 .1 i h), sums .ensures .0)),
+            ((omega arith, omega (arith, room s)), ((λ i h. sums .ensures .1 i h ∙ s .pre .1 .1 .1 .1 .1 .0 i h), sums .ensures .0)),
           ),
         ),
       ),
@@ -81,7 +87,7 @@ outer-words-requires c κs =
     let wide = s .pre .1 .1 .1 .1 .0 .2 in
     let long = s .pre .1 .1 .0 in
     let same = inner .kept .1 .1 .1 .1 .1 .0 in
-    let same₀ = summed .row-sums .kept .1 .1 .1 .1 .0 in (
+    let same₀ = summed .row-sums .kept .1 .1 .1 .1 .1 .0 in (
       s .pre .0,
       (
         s .pre .1 .0,

@@ -10,11 +10,11 @@ use Rattle.flow.proofs.seed_rows.Statement.{statement}
 use Rattle.flow.proofs.seed_rows.Tie as tie
 
 abbrev Inv-loop : tie.InvT-loop
-Inv-loop g elevations work₀ table rows cols row₀ work row =
+Inv-loop g offsets elevations work₀ table rows cols row₀ work row =
     (1 ≤ row) × (row + 1 ≤ g .rows) × (length work ≡ length work₀) × WordsTo g elevations (row * g .cols + 1) work
 
 abbrev μ-loop : tie.MeasureT-loop
-μ-loop g elevations work₀ table rows cols row₀ work row = g .rows - row
+μ-loop g offsets elevations work₀ table rows cols row₀ work row = g .rows - row
 
 choices-requires : tie.Need-choices-requires Inv-loop μ-loop
 choices-requires c κs = search needs
@@ -22,7 +22,7 @@ choices-requires c κs = search needs
 -- two rows lie on the sheet, and a third
 three : (s : tie.Start Inv-loop μ-loop) → s .args .g .cols + s .args .g .cols + s .args .g .cols ≤ size (s .args .g)
 three s =
-    let tall = s .pre .1 .1 .1 .0 in
+    let tall = s .pre .1 .1 .1 .0 .0 in
     let one : 1 * s .args .g .cols + s .args .g .cols + s .args .g .cols ≤ size (s .args .g) = row-on (s .args .g) 1 (omega arith) in
     omega arith
 
@@ -36,7 +36,7 @@ outer-words-requires : tie.Need-outer-words-requires Inv-loop μ-loop
 outer-words-requires c κs =
     let s = c .before .before .before in
     let long = s .pre .1 .1 .0 in
-    let wide = s .pre .1 .1 .1 .1 in (
+    let wide = s .pre .1 .1 .1 .0 .1 in (
       s .pre .0,
       (
         s .pre .1 .0,
@@ -54,7 +54,7 @@ loop-holds : tie.Need-loop-holds Inv-loop μ-loop
 loop-holds c =
     let first = c .before .before .outer-words in
     let s = c .before .before .before .before .before .before in
-    let tall = s .pre .1 .1 .1 .0 in
+    let tall = s .pre .1 .1 .1 .0 .0 in
     (omega arith, omega arith, refl, λ i h. first .ensures i (omega arith))
 
 -- rows are few
@@ -62,7 +62,7 @@ few : (c : tie.At-loop Inv-loop μ-loop) → c .loop .row + 1 < 16777216
 few c =
     let s = c .before .before .before .before .before .before .before in
     let small = s .pre .1 .0 in
-    let wide = s .pre .1 .1 .1 .1 in
+    let wide = s .pre .1 .1 .1 .0 .1 in
     let below = c .loop .inv .1 in
     omega (arith, rows-small (s .args .g) (omega arith))
 
@@ -90,7 +90,7 @@ seed-row-requires c κs =
       s .pre .0,
       (
         s .pre .1 .0,
-        (long-at at, (table, ((at .loop .inv .0, omega arith, s .pre .1 .1 .1 .1), at .loop .inv .3))),
+        (long-at at, (table, ((at .loop .inv .0, omega arith, s .pre .1 .1 .1 .0 .1), (at .loop .inv .3, s .pre .1 .1 .1 .1)))),
       ),
     )
 
@@ -109,7 +109,7 @@ loop-again c =
     let row = c .before .before .seed-row in
     let at = c .before .before .before .before .before .before in
     let test = c .before .before .before .before .before .loop-test .taken in
-    let same = row .kept .1 .1 .1 .1 .0 in
+    let same = row .kept .1 .1 .1 .1 .1 .0 in
     (omega arith, omega arith, same ∙ at .loop .inv .2, row .ensures)
 
 -- the last row ends the sheet
@@ -135,7 +135,7 @@ outer-words-requires-2 c κs =
     let at = c .before .before in
     let s = at .before .before .before .before .before .before .before in
     let len = s .pre .0 in
-    let wide = s .pre .1 .1 .1 .1 in
+    let wide = s .pre .1 .1 .1 .0 .1 in
     let left = c .before .loop-test .left in
     let below = at .loop .inv .1 in (
       s .pre .0,

@@ -12,11 +12,11 @@ use Rattle.flow.proofs.write_codes.Statement.{statement}
 use Rattle.flow.proofs.write_codes.Tie as tie
 
 abbrev Inv-loop : tie.InvT-loop
-Inv-loop g elevations work codes₀ table cells cell₀ codes cell =
+Inv-loop g offsets elevations work codes₀ table cells cell₀ codes cell =
     (cell ≤ cells) × (length codes ≡ length codes₀) × ((c : ℕ) → c < cell → getD codes c 0 ≡ directionAt g elevations (levelsIn g work) c)
 
 abbrev μ-loop : tie.MeasureT-loop
-μ-loop g elevations work codes₀ table cells cell₀ codes cell = cells - cell
+μ-loop g offsets elevations work codes₀ table cells cell₀ codes cell = cells - cell
 
 choices-requires : tie.Need-choices-requires Inv-loop μ-loop
 choices-requires c κs = search needs
@@ -36,7 +36,10 @@ code-at-requires c κs =
         s .pre .1 .0,
         (
           s .pre .1 .1 .0,
-          (c .before .before .before .choices .ensures, (on, (s .pre .1 .1 .1 .1 .0, s .pre .1 .1 .1 .1 .1 (l .cell) on))),
+          (
+            c .before .before .before .choices .ensures,
+            (on, (s .pre .1 .1 .1 .1 .0, (s .pre .1 .1 .1 .1 .1 .0 (l .cell) on, s .pre .1 .1 .1 .1 .1 .1))),
+          ),
         ),
       ),
     )

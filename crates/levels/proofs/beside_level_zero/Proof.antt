@@ -6,10 +6,10 @@ use Rattle.levels.proofs.beside_level_zero.Statement.{statement}
 use Rattle.levels.proofs.beside_level_zero.Tie as tie
 
 abbrev Inv-loop : tie.InvT-loop
-Inv-loop g elevations cell k work found₀ p₀ found p = (p ≤ 8) × Looked g elevations work cell p found
+Inv-loop g offsets elevations cell k work found₀ p₀ found p = (p ≤ 8) × Looked g elevations work cell p found
 
 abbrev μ-loop : tie.MeasureT-loop
-μ-loop g elevations cell k work found₀ p₀ found p = 8 - p
+μ-loop g offsets elevations cell k work found₀ p₀ found p = 8 - p
 
 loop-holds : tie.Need-loop-holds Inv-loop μ-loop
 loop-holds c = let a = c .before .args in (omega arith, looked-none (a .g) (a .elevations .now) (a .work .now) (a .cell))
@@ -17,7 +17,7 @@ loop-holds c = let a = c .before .args in (omega arith, looked-none (a .g) (a .e
 beside-requires : tie.Need-beside-requires Inv-loop μ-loop
 beside-requires c κs =
     let s = c .before .before .before in
-    (s .pre .1 .0, (s .pre .1 .1 .1 .0, (s .pre .1 .1 .1 .1 .0, c .loop-test .taken)))
+    (s .pre .1 .0, (s .pre .1 .1 .1 .1 .0, (c .loop-test .taken, s .pre .1 .1 .1 .1 .1 .1 .1)))
 
 is-zero-at-requires : tie.Need-is-zero-at-requires Inv-loop μ-loop
 is-zero-at-requires c κs =
@@ -25,7 +25,7 @@ is-zero-at-requires c κs =
     let len = s .pre .0 in
     let long = s .pre .1 .1 .0 in
     let on = c .beside .ensures .1 in
-    (omega arith, (omega arith, s .pre .1 .1 .1 .1 .1 .1))
+    (omega arith, (omega arith, s .pre .1 .1 .1 .1 .1 .1 .0))
 
 pick-requires : tie.Need-pick-requires Inv-loop μ-loop
 pick-requires c κs = search needs
@@ -46,7 +46,7 @@ loop-again c =
     let a = s .args in (
       omega arith,
       looked-more (a .g) (a .elevations .now) (s .pre .0) (a .work .now) (a .cell) (a .k)
-          (s .pre .1 .1 .1 .1 .1 .0) (s .pre .1 .1 .1 .1 .1 .1)
+          (s .pre .1 .1 .1 .1 .1 .0) (s .pre .1 .1 .1 .1 .1 .1 .0)
           (l .p) (n .result) (n .ensures .0) (l .found) (c .pick .result) (zero .result) test
           (l .inv .1) (zero .ensures .0) (zero .ensures .1) (c .pick .ensures),
     )

@@ -9,11 +9,11 @@ use Rattle.levels.proofs.empty_queue.Statement.{statement}
 use Rattle.levels.proofs.empty_queue.Tie as tie
 
 abbrev Inv-loop : tie.InvT-loop
-Inv-loop g elevations half tail work₀ head₀ end₀ work head end =
+Inv-loop g offsets elevations half tail work₀ head₀ end₀ work head end =
     (length work ≡ length work₀) × Searching g elevations half work (size g) head end
 
 abbrev μ-loop : tie.MeasureT-loop
-μ-loop g elevations half tail work₀ head₀ end₀ work head end = size g - head
+μ-loop g offsets elevations half tail work₀ head₀ end₀ work head end = size g - head
 
 -- the queue is never longer than there are cells
 most : (a : tie.At-loop Inv-loop μ-loop) → a .loop .end ≤ size (a .before .before .args .g)
@@ -22,7 +22,7 @@ most a =
     searching-most (s .args .g) (s .args .elevations .now) (s .pre .0) (s .args .half) (a .loop .work) (a .loop .inv .1)
 
 loop-holds : tie.Need-loop-holds Inv-loop μ-loop
-loop-holds c = (refl, c .before .pre .1 .1 .1 .1)
+loop-holds c = (refl, c .before .pre .1 .1 .1 .1 .0)
 
 spread-requires : tie.Need-spread-requires Inv-loop μ-loop
 spread-requires c κs =
@@ -30,7 +30,7 @@ spread-requires c κs =
     let l = c .before .before .loop in
     let same = l .inv .0 in
     let fits = s .pre .1 .1 .1 .0 in
-    (s .pre .0, (s .pre .1 .0, (s .pre .1 .1 .0, (omega arith, (c .before .loop-test .taken, l .inv .1)))))
+    (s .pre .0, (s .pre .1 .0, (s .pre .1 .1 .0, (omega arith, (c .before .loop-test .taken, (l .inv .1, s .pre .1 .1 .1 .1 .1))))))
 
 add-head : tie.Need-add-head Inv-loop μ-loop
 add-head c =
@@ -51,7 +51,7 @@ loop-again : tie.Need-loop-again Inv-loop μ-loop
 loop-again c =
     let l = c .before .before .before .before .before .loop in
     let s = c .before .before .spread in
-    (s .kept .1 .1 .1 .1 .1 .0 ∙ l .inv .0, s .ensures)
+    (s .kept .1 .1 .1 .1 .1 .1 .0 ∙ l .inv .0, s .ensures)
 
 same-length : tie.Need-same-length Inv-loop μ-loop
 same-length c = c .before .loop .inv .0

@@ -9,16 +9,16 @@ use Rattle.levels.proofs.first_round.Statement.{statement}
 use Rattle.levels.proofs.first_round.Tie as tie
 
 abbrev Inv-loop : tie.InvT-loop
-Inv-loop g elevations half work₀ cells tail₀ cell₀ work tail cell =
+Inv-loop g offsets elevations half work₀ cells tail₀ cell₀ work tail cell =
     (cell ≤ cells) × (length work ≡ length work₀) × Joining g elevations half work cell tail
 
 abbrev μ-loop : tie.MeasureT-loop
-μ-loop g elevations half work₀ cells tail₀ cell₀ work tail cell = cells - cell
+μ-loop g offsets elevations half work₀ cells tail₀ cell₀ work tail cell = cells - cell
 
 loop-holds : tie.Need-loop-holds Inv-loop μ-loop
 loop-holds c =
     let s = c .before in
-    (omega arith, refl, joining-none (s .args .g) (s .args .elevations .now) (s .args .half) (s .args .work .now) (s .pre .1 .1 .1 .1))
+    (omega arith, refl, joining-none (s .args .g) (s .args .elevations .now) (s .args .half) (s .args .work .now) (s .pre .1 .1 .1 .1 .0))
 
 join-requires : tie.Need-join-requires Inv-loop μ-loop
 join-requires c κs =
@@ -28,7 +28,7 @@ join-requires c κs =
     let same = l .inv .1 in
     let fits = s .pre .1 .1 .1 .0 in
     let test = c .before .loop-test .taken in
-    (s .pre .0, (s .pre .1 .0, (s .pre .1 .1 .0, (omega arith, (omega arith, l .inv .2)))))
+    (s .pre .0, (s .pre .1 .0, (s .pre .1 .1 .0, (omega arith, (omega arith, (l .inv .2, s .pre .1 .1 .1 .1 .1))))))
 
 add-cell : tie.Need-add-cell Inv-loop μ-loop
 add-cell c = let test = c .before .before .before .before .loop-test .taken in omega arith
@@ -41,7 +41,7 @@ loop-again c =
     let l = c .before .before .before .before .before .loop in
     let test = c .before .before .before .before .loop-test .taken in
     let j = c .before .before .join in
-    (omega arith, j .kept .1 .1 .1 .1 .1 .0 ∙ l .inv .1, j .ensures)
+    (omega arith, j .kept .1 .1 .1 .1 .1 .1 .0 ∙ l .inv .1, j .ensures)
 
 same-length : tie.Need-same-length Inv-loop μ-loop
 same-length c = c .before .loop .inv .1

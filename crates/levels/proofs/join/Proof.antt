@@ -39,7 +39,7 @@ returns c =
     let s = c .before .before .before in
     let a = s .args in
     joining-has (a .g) (a .elevations .now) (s .pre .0) (a .half) (a .work .now) (a .cell) (a .tail) (s .pre .1 .1 .1 .1 .0)
-    (s .pre .1 .1 .1 .1 .1) (c .if1 .taken)
+    (s .pre .1 .1 .1 .1 .1 .0) (c .if1 .taken)
 
 mul-key : tie.Need-mul-key
 mul-key c = search needs
@@ -56,7 +56,7 @@ returns-2 c =
     let s = start key in
     let a = s .args in
     joining-void (a .g) (a .elevations .now) (s .pre .0) (a .half) (a .work .now) (a .cell) (a .tail) (s .pre .1 .1 .1 .1 .0)
-    (s .pre .1 .1 .1 .1 .1)
+    (s .pre .1 .1 .1 .1 .1 .0)
     (zero-no-data (a .elevations .now) (a .cell) (key .key .result) (own key .0) (own key .1 .1 .0) (c .if2 .taken))
 
 beside-level-zero-requires : tie.Need-beside-level-zero-requires
@@ -68,9 +68,9 @@ beside-level-zero-requires c κs =
     let left = c .before .if2 .left in
     let some : 0 < key .key .result = omega arith in
     let inner =
-    joining-within (a .g) (a .elevations .now) (s .pre .0) (a .half) (a .work .now) (a .cell) (a .tail) on (s .pre .1 .1 .1 .1 .1)
+    joining-within (a .g) (a .elevations .now) (s .pre .0) (a .half) (a .work .now) (a .cell) (a .tail) on (s .pre .1 .1 .1 .1 .1 .0)
     (key .before .before .if1 .left) (is-data key some) in
-    (s .pre .0, (s .pre .1 .0, (omega arith, (on, (inner, (height key, some))))))
+    (s .pre .0, (s .pre .1 .0, (omega arith, (on, (inner, (height key, (some, s .pre .1 .1 .1 .1 .1 .1)))))))
 
 same-length : tie.Need-same-length
 same-length c = search needs
@@ -81,7 +81,7 @@ returns-3 c =
     let s = start (found .before .before .before) in
     let a = s .args in
     joining-alone (a .g) (a .elevations .now) (s .pre .0) (a .half) (a .work .now) (a .cell) (a .tail) (s .pre .1 .1 .1 .1 .0)
-    (s .pre .1 .1 .1 .1 .1) (found .beside-level-zero .ensures .1 (c .if3 .taken))
+    (s .pre .1 .1 .1 .1 .1 .0) (found .beside-level-zero .ensures .1 (c .if3 .taken))
 
 mark-requires : tie.Need-mark-requires
 mark-requires c κs =
@@ -93,7 +93,7 @@ mark-requires c κs =
     let under = s .pre .1 .1 .0 in
     let fits = s .pre .1 .1 .1 .0 in
     let room =
-    joining-room (a .g) (a .elevations .now) (s .pre .0) (a .half) (a .work .now) (a .cell) (a .tail) on (s .pre .1 .1 .1 .1 .1)
+    joining-room (a .g) (a .elevations .now) (s .pre .0) (a .half) (a .work .now) (a .cell) (a .tail) on (s .pre .1 .1 .1 .1 .1 .0)
     (key .before .before .if1 .left) in
     (omega arith, (omega arith, omega arith))
 
@@ -111,7 +111,7 @@ returns-4 c =
     let a = s .args in
     let p = found .beside-level-zero .ensures .0 least in
     joining-next (a .g) (a .elevations .now) (s .pre .0) (a .half) (a .work .now) (a .cell) (a .tail) (s .pre .1 .1 .1 .1 .0)
-    (s .pre .1 .1 .1 .1 .1) (s .pre .1 .1 .0) (s .pre .1 .1 .1 .0) (key .before .before .if1 .left) (is-data key (omega arith))
+    (s .pre .1 .1 .1 .1 .1 .0) (s .pre .1 .1 .0) (s .pre .1 .1 .1 .0) (key .before .before .if1 .left) (is-data key (omega arith))
     (found .beside-level-zero .result) least (p .0) (p .1) (marked .mark .ensures .0) (marked .mark .ensures .1)
 
 pub join-spec : {M : Type 1} → statement M

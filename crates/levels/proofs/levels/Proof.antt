@@ -10,15 +10,15 @@ first-round-requires : tie.Need-first-round-requires
 first-round-requires c κs =
     let s = c .before .before in
     let long = s .pre .1 .1 .0 in
-    (s .pre .0, (s .pre .1 .0, (omega arith, (omega arith, s .pre .1 .1 .1))))
+    (s .pre .0, (s .pre .1 .0, (omega arith, (omega arith, (s .pre .1 .1 .1 .0, s .pre .1 .1 .1 .1)))))
 
 empty-queue-requires : tie.Need-empty-queue-requires
 empty-queue-requires c κs =
     let first = c .before .before .before .first-round in
     let s = c .before .before .before .before .before .before in
     let long = s .pre .1 .1 .0 in
-    let kept = first .kept .1 .1 .1 .0 in
-    (s .pre .0, (s .pre .1 .0, (omega arith, (omega arith, first .ensures))))
+    let kept = first .kept .1 .1 .1 .1 .0 in
+    (s .pre .0, (s .pre .1 .0, (omega arith, (omega arith, (first .ensures, s .pre .1 .1 .1 .1)))))
 
 same-length : tie.Need-same-length
 same-length c = search needs

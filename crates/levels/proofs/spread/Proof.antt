@@ -9,17 +9,17 @@ use Rattle.levels.proofs.spread.Statement.{statement}
 use Rattle.levels.proofs.spread.Tie as tie
 
 abbrev Inv-loop : tie.InvT-loop
-Inv-loop g elevations half head tail work₀ cell word end₀ p₀ work end p =
+Inv-loop g offsets elevations half head tail work₀ cell word end₀ p₀ work end p =
     (p ≤ 8) × (length work ≡ length work₀) × Spreading g elevations half work head end cell word p
 
 abbrev μ-loop : tie.MeasureT-loop
-μ-loop g elevations half head tail work₀ cell word end₀ p₀ work end p = 8 - p
+μ-loop g offsets elevations half head tail work₀ cell word end₀ p₀ work end p = 8 - p
 
 most : (s : tie.Start Inv-loop μ-loop) → s .args .head < size (s .args .g)
 most s =
     let a = s .args in
     let h = s .pre .1 .1 .1 .1 .0 in
-    omega (arith, searching-most (a .g) (a .elevations .now) (s .pre .0) (a .half) (a .work .now) (s .pre .1 .1 .1 .1 .1))
+    omega (arith, searching-most (a .g) (a .elevations .now) (s .pre .0) (a .half) (a .work .now) (s .pre .1 .1 .1 .1 .1 .0))
 
 -- the queue's first
 abbrev first : tie.Start Inv-loop μ-loop → ℕ
@@ -28,7 +28,7 @@ first s = getD (s .args .work .now) (s .args .half + s .args .head) 0
 on : (s : tie.Start Inv-loop μ-loop) → first s < size (s .args .g)
 on s =
     let a = s .args in
-    first-on (a .g) (a .elevations .now) (s .pre .0) (a .half) (a .work .now) (a .head) (a .tail) (s .pre .1 .1 .1 .1 .1)
+    first-on (a .g) (a .elevations .now) (s .pre .0) (a .half) (a .work .now) (a .head) (a .tail) (s .pre .1 .1 .1 .1 .1 .0)
     (s .pre .1 .1 .1 .1 .0)
 
 abbrev start : tie.At-loop Inv-loop μ-loop → tie.Start Inv-loop μ-loop
@@ -57,7 +57,7 @@ add-word c =
     let s = c .before .before .before in
     let a = s .args in
     let low =
-    searching-small (a .g) (a .elevations .now) (s .pre .0) (a .half) (a .work .now) (s .pre .1 .1 .1 .1 .1) (first s) (on s) in
+    searching-small (a .g) (a .elevations .now) (s .pre .0) (a .half) (a .work .now) (s .pre .1 .1 .1 .1 .1 .0) (first s) (on s) in
     omega arith
 
 loop-holds : tie.Need-loop-holds Inv-loop μ-loop
@@ -66,7 +66,7 @@ loop-holds c =
     let a = s .args in (
       omega arith,
       refl,
-      spreading-none (a .g) (a .elevations .now) (s .pre .0) (a .half) (a .work .now) (a .head) (a .tail) (s .pre .1 .1 .1 .1 .1)
+      spreading-none (a .g) (a .elevations .now) (s .pre .0) (a .half) (a .work .now) (a .head) (a .tail) (s .pre .1 .1 .1 .1 .1 .0)
           (s .pre .1 .1 .1 .1 .0),
     )
 
@@ -75,9 +75,9 @@ beside-requires c κs =
     let s = start (c .before) in
     let a = s .args in
     let inner =
-    first-within (a .g) (a .elevations .now) (s .pre .0) (a .half) (a .work .now) (a .head) (a .tail) (s .pre .1 .1 .1 .1 .1)
+    first-within (a .g) (a .elevations .now) (s .pre .0) (a .half) (a .work .now) (a .head) (a .tail) (s .pre .1 .1 .1 .1 .1 .0)
     (s .pre .1 .1 .1 .1 .0) in
-    (s .pre .1 .0, (on s, (inner, c .loop-test .taken)))
+    (s .pre .1 .0, (inner, (c .loop-test .taken, s .pre .1 .1 .1 .1 .1 .1)))
 
 touch-requires : tie.Need-touch-requires Inv-loop μ-loop
 touch-requires c κs =

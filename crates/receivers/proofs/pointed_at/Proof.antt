@@ -1,21 +1,25 @@
 -- Within the border the neighbour lies at the table's distance; on it, row and column decide.
-use mathlib.Core.Path.{_∙_, ap}
+use mathlib.Core.Path.{_≡_, _∙_, ap}
+use Prim.Native.Nat.{_+_, _<_}
 use native.Mathlib.Omega.{arith}
 use lib.ListN.{getD}
 use denote.Ref.{now}
-use Rattle.grid.specs.Sheet.{positionOf, neighbour}
+use Rattle.grid.specs.Sheet.{size, positionOf, neighbour}
 use Rattle.cells.proofs.Steps.{place-small}
-use Rattle.receivers.proofs.Codes.{Reached, reached}
+use Rattle.receivers.proofs.Codes.{reached}
 use borrow.Author.Needs.{needs}
 use Rattle.receivers.proofs.pointed_at.Statement.{statement}
 use Rattle.receivers.proofs.pointed_at.Tie as tie
 
 -- what the test for an inner cell says
-at-inner : (c : tie.Then1) → Reached (c .before .before .args .g) (c .before .before .args .cell)
-    (positionOf (c .before .before .args .code)) (getD (now (c .before .before .args .table)) (c .before .before .args .code) 0)
+at-inner : (c : tie.Then1) →
+    let a = c .before .before .args in
+    let n = neighbour (a .g) (a .cell) (positionOf (a .code)) in
+    (n + (a .g .cols + 1) ≡ a .cell + getD (now (a .table)) (a .code) 0)
+    × ((n < size (a .g)) × (a .cell + getD (now (a .table)) (a .code) 0 + (a .g .cols + 1) < 67108864))
 at-inner c =
     let s = c .before .before in
-    reached (s .args .g) (s .args .cell) (s .args .row) (s .args .col) (s .args .code) (now (s .args .table)) (s .pre .0) (s .pre .1 .0)
+    reached (s .args .g) (s .args .cell) (s .args .row) (s .args .col) (s .args .code) (now (s .args .table)) (s .pre .0)
     (s .pre .1 .1 .0) (s .pre .1 .1 .1 .0) (s .pre .1 .1 .1 .1 .0) (s .pre .1 .1 .1 .1 .1) (c .before .is-inner .ensures (c .if1 .taken))
 
 is-inner-requires : tie.Need-is-inner-requires
@@ -32,16 +36,16 @@ element-copy-out-result : tie.Need-element-copy-out-result
 element-copy-out-result c = search needs
 
 add-result : tie.Need-add-result
-add-result c = let r = at-inner (c .before) in let a = r .fits in omega arith
+add-result c = let a = at-inner (c .before) .1 .1 in omega arith
 
 add-result-2 : tie.Need-add-result-2
-add-result-2 c = let r = at-inner (c .before) in let a = r .cols-small in omega arith
+add-result-2 c = let a = at-inner (c .before) .1 .1 in omega arith
 
 sub-result : tie.Need-sub-result
-sub-result c = let r = at-inner (c .before) in r .low
+sub-result c = let a = at-inner (c .before) .0 in omega arith
 
 returns : tie.Need-returns
-returns c = let r = at-inner (c .before) in r .is
+returns c = let a = at-inner (c .before) .0 in omega arith
 
 position-requires : tie.Need-position-requires
 position-requires c κs = search needs

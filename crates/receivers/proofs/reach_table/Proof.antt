@@ -1,66 +1,82 @@
--- The seven stores give the table at the eight codes; north-west lies first, at 0.
-use borrow.Author.Needs.{needs}
-use Rattle.receivers.proofs.Codes.{reach-table-is}
+-- Position by position: the codes are eight different places.
+use mathlib.Core.Path.{refl}
+use Prim.Native.Nat.{_-_, _<_}
+use native.Mathlib.Omega.{arith}
+use Rattle.receivers.proofs.Codes.{ReachTo, code-small, reach-none, reach-more, reach-all}
 use Rattle.receivers.proofs.reach_table.Statement.{statement}
 use Rattle.receivers.proofs.reach_table.Tie as tie
 
-array-write-table : tie.Need-array-write-table
-array-write-table c = search needs
+abbrev Inv-loop : tie.InvT-loop
+Inv-loop cols offsets table₀ p₀ table p = ReachTo offsets table p
 
-add-table : tie.Need-add-table
-add-table c = search needs
+abbrev μ-loop : tie.MeasureT-loop
+μ-loop cols offsets table₀ p₀ table p = 8 - p
 
-array-write-table-2 : tie.Need-array-write-table-2
-array-write-table-2 c = search needs
+offsets-requires : tie.Need-offsets-requires Inv-loop μ-loop
+offsets-requires c κs = c .pre
 
-mul-table : tie.Need-mul-table
-mul-table c = search needs
+loop-holds : tie.Need-loop-holds Inv-loop μ-loop
+loop-holds c = reach-none (c .offsets .result) _ refl
 
-add-table-2 : tie.Need-add-table-2
-add-table-2 c = search needs
+mul-table : tie.Need-mul-table Inv-loop μ-loop
+mul-table c = let h = c .loop-test .taken in omega arith
 
-array-write-table-3 : tie.Need-array-write-table-3
-array-write-table-3 c = search needs
+array-read-table : tie.Need-array-read-table Inv-loop μ-loop
+array-read-table c = c .loop-test .taken
 
-mul-table-2 : tie.Need-mul-table-2
-mul-table-2 c = search needs
+code-requires : tie.Need-code-requires Inv-loop μ-loop
+code-requires c κs = c .loop-test .taken
 
-add-table-3 : tie.Need-add-table-3
-add-table-3 c = search needs
+-- the code is a byte
+small : (c : tie.After-code Inv-loop μ-loop) → c .code .result < 256
+small c =
+    let t = c .before in
+    code-small (t .before .loop .p) (c .code .result) (t .loop-test .taken) (c .code .ensures)
 
-array-write-table-4 : tie.Need-array-write-table-4
-array-write-table-4 c = search needs
+cast-table : tie.Need-cast-table Inv-loop μ-loop
+cast-table c = let a = small c in omega arith
 
-mul-table-3 : tie.Need-mul-table-3
-mul-table-3 c = search needs
+mul-table-2 : tie.Need-mul-table-2 Inv-loop μ-loop
+mul-table-2 c = let a = small c in omega arith
 
-array-write-table-5 : tie.Need-array-write-table-5
-array-write-table-5 c = search needs
+array-write-table : tie.Need-array-write-table Inv-loop μ-loop
+array-write-table c = small c
 
-array-write-table-6 : tie.Need-array-write-table-6
-array-write-table-6 c = search needs
+add-p : tie.Need-add-p Inv-loop μ-loop
+add-p c = let h = c .before .loop-test .taken in omega arith
 
-array-write-table-7 : tie.Need-array-write-table-7
-array-write-table-7 c = search needs
+loop-less : tie.Need-loop-less Inv-loop μ-loop
+loop-less c = let h = c .before .loop-test .taken in omega arith
 
-returns : tie.Need-returns
-returns c = reach-table-is (c .args .cols)
+loop-again : tie.Need-loop-again Inv-loop μ-loop
+loop-again c =
+    let t = c .before in
+    let l = t .before in
+    reach-more (l .before .offsets .result) (l .loop .table) (l .loop .p) (c .code .result) (t .loop-test .taken) (c .code .ensures)
+    (l .loop .inv)
+
+returns : tie.Need-returns Inv-loop μ-loop
+returns c =
+    let l = c .before in
+    let o = l .before in
+    reach-all (o .offsets .result) (l .loop .table) (l .loop .p) (c .loop-test .left) (l .loop .inv) (o .before .args .cols)
+    (o .offsets .ensures)
 
 pub reach-table-spec : {M : Type 1} → statement M
 reach-table-spec =
     tie.close
     (tie.spec
-    array-write-table
-    add-table
-    array-write-table-2
+    Inv-loop
+    μ-loop
+    offsets-requires
+    loop-holds
     mul-table
-    add-table-2
-    array-write-table-3
+    array-read-table
+    code-requires
+    cast-table
     mul-table-2
-    add-table-3
-    array-write-table-4
-    mul-table-3
-    array-write-table-5
-    array-write-table-6
-    array-write-table-7
+    array-write-table
+    add-p
+    loop-less
+    loop-again
     returns)

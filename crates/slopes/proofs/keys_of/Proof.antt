@@ -13,10 +13,10 @@ use Rattle.slopes.proofs.keys_of.Statement.{statement}
 use Rattle.slopes.proofs.keys_of.Tie as tie
 
 abbrev Inv-loop : tie.InvT-loop
-Inv-loop g elevations cell keys₀ p₀ keys p = Gathered g elevations cell keys p
+Inv-loop g offsets elevations cell keys₀ p₀ keys p = Gathered g elevations cell keys p
 
 abbrev μ-loop : tie.MeasureT-loop
-μ-loop g elevations cell keys₀ p₀ keys p = 8 - p
+μ-loop g offsets elevations cell keys₀ p₀ keys p = 8 - p
 
 loop-holds : tie.Need-loop-holds Inv-loop μ-loop
 loop-holds c = gathered-none (c .args .g) (c .args .elevations .now) (c .args .cell) _ refl
@@ -24,7 +24,7 @@ loop-holds c = gathered-none (c .args .g) (c .args .elevations .now) (c .args .c
 beside-requires : tie.Need-beside-requires Inv-loop μ-loop
 beside-requires c κs =
     let s = c .before .before in
-    (s .pre .1 .0, (s .pre .1 .1 .0, (s .pre .1 .1 .1, c .loop-test .taken)))
+    (s .pre .1 .0, (s .pre .1 .1 .1 .0, (c .loop-test .taken, s .pre .1 .1 .1 .1)))
 
 -- the neighbour lies on the sheet
 there : (c : tie.After-beside Inv-loop μ-loop) → c .beside .result < length (c .before .before .before .args .elevations .now)

@@ -17,8 +17,14 @@ all c =
     ap₂ _+_ (ap₂ _+_ (ap₂ _+_ (c .before .before .before .pick .ensures) (c .before .before .pick2 .ensures)) (c .before .pick3 .ensures))
     (c .pick4 .ensures)
 
+cast-pick : tie.Need-cast-pick
+cast-pick c = search needs
+
 pick-requires : tie.Need-pick-requires
 pick-requires c κs = search needs
+
+cast-pick-2 : tie.Need-cast-pick-2
+cast-pick-2 c = search needs
 
 pick-requires-2 : tie.Need-pick-requires-2
 pick-requires-2 c κs = search needs
@@ -33,6 +39,9 @@ add-result c =
       bit (eqb (s .args .a) (s .args .low)) 1,
       bit (eqb (s .args .b) (s .args .low)) 4,
     )
+
+cast-pick-3 : tie.Need-cast-pick-3
+cast-pick-3 c = search needs
 
 pick-requires-3 : tie.Need-pick-requires-3
 pick-requires-3 c κs = search needs
@@ -49,6 +58,9 @@ add-result-2 c =
       bit (eqb (s .args .b) (s .args .low)) 4,
       bit (eqb (s .args .c) (s .args .low)) 16,
     )
+
+cast-pick-4 : tie.Need-cast-pick-4
+cast-pick-4 c = search needs
 
 pick-requires-4 : tie.Need-pick-requires-4
 pick-requires-4 c κs = search needs
@@ -67,11 +79,15 @@ pub members-spec : {M : Type 1} → statement M
 members-spec =
     tie.close
     (tie.spec
+    cast-pick
     pick-requires
+    cast-pick-2
     pick-requires-2
     add-result
+    cast-pick-3
     pick-requires-3
     add-result-2
+    cast-pick-4
     pick-requires-4
     add-result-3
     returns)

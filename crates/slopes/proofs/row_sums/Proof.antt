@@ -10,12 +10,12 @@ use Rattle.slopes.proofs.row_sums.Statement.{statement}
 use Rattle.slopes.proofs.row_sums.Tie as tie
 
 abbrev Inv-loop : tie.InvT-loop
-Inv-loop g elevations from to work₀ cell₀ work cell =
+Inv-loop g offsets elevations from to work₀ cell₀ work cell =
     (from ≤ cell) × (length work ≡ length work₀) × ((c : ℕ) → from ≤ c → c < cell → getD work c 0 ≡ innerSum g elevations c)
     × ((c : ℕ) → c < from → getD work c 0 ≡ getD work₀ c 0)
 
 abbrev μ-loop : tie.MeasureT-loop
-μ-loop g elevations from to work₀ cell₀ work cell = to - cell
+μ-loop g offsets elevations from to work₀ cell₀ work cell = to - cell
 
 loop-holds : tie.Need-loop-holds Inv-loop μ-loop
 loop-holds c = (omega arith, refl, (λ i h k. let z : ⊥ = omega arith in absurd z), λ i h. refl)
@@ -26,7 +26,7 @@ inner-sum-requires c κs =
     let s = c .before .before .before in
     let last = s .pre .1 .1 .0 in
     let test = c .loop-test .taken in
-    (s .pre .0, (s .pre .1 .0, (omega arith, s .pre .1 .1 .1 .1 (l .cell) (l .inv .0) test)))
+    (s .pre .0, (s .pre .1 .0, (omega arith, (s .pre .1 .1 .1 .1 .0 (l .cell) (l .inv .0) test, s .pre .1 .1 .1 .1 .1))))
 
 cast-work : tie.Need-cast-work Inv-loop μ-loop
 cast-work c = search needs
