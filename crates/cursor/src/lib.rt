@@ -1,14 +1,20 @@
 // "The reader goes digit by digit and hands its position on": a cursor by value. Each method takes it and returns the next cursor with
-// what it read: one digit, or a number of 4 digits. A byte that is no digit reads as 16, as in the definition `hexValue`.
+// what it read: one byte, one digit, or a number of 4 digits. A byte that is no digit reads as 16, as in the definition `hexValue`.
 ghost use mathlib.Core.Path.{_≡_};
 ghost use Prim.Native.Nat.{_+_, _<_, _≤_};
 ghost use lib.ListN.{length};
 ghost use Rattle.grid.specs.Frames.{hexValue, fromTwos};
-ghost use Rattle.cursor.specs.Reading.{DigitRead, NumberRead};
+ghost use Rattle.cursor.specs.Reading.{ByteRead, DigitRead, NumberRead};
 
 // a place in a text
 pub struct Cursor {
     pub at: usize,
+}
+
+// a byte, and the cursor past it
+pub struct Byte {
+    pub value: u8,
+    pub next: Cursor,
 }
 
 // a digit's value, and the cursor past it
@@ -56,15 +62,26 @@ pub fn hex_value(byte: u8) -> u32
 }
 
 impl Cursor {
+    pub fn byte(self, text: &[u8]) -> Byte
+        requires { ⌜ self .at < length (now text) ⌝ }
+        ensures { λ r. ⌜ ByteRead (now (text .entry)) (self .at) r ⌝ }
+    {
+        let at = self.at;
+        Byte {
+            value: text[at],
+            next: Cursor { at: at + 1 },
+        }
+    }
+
     pub fn digit(self, text: &[u8]) -> Digit
         requires { ⌜ self .at < length (now text) ⌝ }
         ensures { λ r. ⌜ DigitRead (now (text .entry)) (self .at) r ⌝ }
     {
-        let at = self.at;
-        let value = hex_value(text[at]);
+        let read = self.byte(text);
+        let next = read.next;
         Digit {
-            value,
-            next: Cursor { at: at + 1 },
+            value: hex_value(read.value),
+            next,
         }
     }
 
@@ -91,8 +108,8 @@ impl Cursor {
         requires { ⌜ self .at < length (now text) ⌝ }
         ensures { λ r. ⌜ r .at ≡ self .at + 1 ⌝ }
     {
-        let d = self.digit(text);
-        d.next
+        let read = self.byte(text);
+        read.next
     }
 }
 

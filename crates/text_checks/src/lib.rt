@@ -1,6 +1,6 @@
-// Questions 2 and 3 about a text: "Is every byte a digit or a line feed?", with the place of the first that isn't, and "Is it a line of 4
-// digits for rows and 4 for columns, then exactly that many lines of 4 digits for each column, each line ended by one line feed, and
-// nothing more?". Each is one loop over the bytes, and a test of each byte; the header's numbers are read by the cursor.
+// Questions 2 and 3 about a text: "Is every byte a digit 0–9, A–F, a–f or a line feed?", with the place of the first that isn't, and "Is
+// it a line of 4 digits for rows and 4 for columns, then exactly that many lines of 4 digits for each column, each line ended by one line
+// feed, and nothing more?". Each is one loop of the cursor over the bytes, and a test of each byte.
 ghost use mathlib.Core.Path.{_≡_};
 ghost use Prim.Native.Nat.{_≤_};
 ghost use lib.ListN.{length};
@@ -23,15 +23,16 @@ fn is_text_byte(b: u8) -> bool
 pub fn first_bad_byte(text: &[u8]) -> usize
     ensures { λ r. ⌜ (r ≡ firstBadByte (now (text .entry))) × (r ≤ length (now (text .entry))) ⌝ }
 {
-    let mut next = 0;
-    while next < text.len() {
-        let place = next;
-        next = place + 1;
-        if !is_text_byte(text[place]) {
-            return place;
+    let mut next = Cursor { at: 0 };
+    while next.at < text.len() {
+        let read = next.byte(text);
+        if !is_text_byte(read.value) {
+            return next.at;
         }
+        let past = read.next;
+        next = past;
     }
-    next
+    next.at
 }
 
 // "a line of 4 digits for rows and 4 for columns"
@@ -79,13 +80,14 @@ fn feeds_end_lines(text: &[u8], cols: usize) -> bool
     requires { ⌜ cols ≤ 69904 ⌝ }
     ensures { λ r. ⌜ r ≡ feedsEndLines (now (text .entry)) cols ⌝ }
 {
-    let mut i = 0;
-    while i < text.len() {
-        if is_placed(cols, text[i], i) {
-            i += 1;
-        } else {
+    let mut next = Cursor { at: 0 };
+    while next.at < text.len() {
+        let read = next.byte(text);
+        if !is_placed(cols, read.value, next.at) {
             return false;
         }
+        let past = read.next;
+        next = past;
     }
     true
 }
