@@ -1,17 +1,34 @@
-# make demo    builds the program and runs it on the printed sheet of document 01
-# make test    the gate: .ci/run
-# make lib     build/libtervuola.a
+# make demo       proves and builds the program, target/bin/drain, and runs it on the printed sheet of document 01
+# make test       the gate: .ci/run
+# make lib        build/libtervuola.a
 # make install PREFIX=/usr/local    archive, header, pkg-config file
-# make bench   ratios to the expert's C (bench/run 12 1000 for other sides)
+# make examples   build/minimal, build/tile
+# make bench      ratios to the expert's C (bench/run 12 1000 for other sides)
+# README.md says what each needs. CC, CXX, CFLAGS and DESTDIR are respected.
 PREFIX ?= /usr/local
-VERSION = 0.1.0
-.PHONY: demo test tests lib install bench examples second clean
+CFLAGS ?= -O2
+ifeq ($(origin CC),default)
+CC = gcc
+endif
+export CC CXX
+VERSION := $(shell sed -n 's/^.define TERVUOLA_VERSION_[A-Z]* //p' include/tervuola.h | paste -sd.)
+# folders too, so that a file that was taken away counts
+SOURCES := crates.txt $(shell find crates)
+LIBRARY = build/libtervuola.a
+.PHONY: demo test tests lib install bench examples compiler second clean
+.NOTPARALLEL:
+.DELETE_ON_ERROR:
 
-demo:
-	@mkdir -p build
-	@rt check drain >build/demo.log 2>&1 || { cat build/demo.log; exit 1; }
-	@echo "the printed sheet of document 01:"; cat crates/drain/stdin
-	@echo "its filled sheet, codes, counts and labels:"; target/bin/drain <crates/drain/stdin
+demo: target/bin/drain
+	@echo "the printed sheet of document 01, and its elevations:"
+	@examples/tables <crates/drain/stdin
+	@echo "what target/bin/drain prints for it, and the four sheets in decimal:"
+	@target/bin/drain <crates/drain/stdin | examples/tables
+
+# touched, since the kit leaves a program alone whose files have not changed
+target/bin/drain: $(SOURCES)
+	@.ci/prove drain "about 3 minutes on two cores where nothing is proved yet"
+	@touch $@
 
 test:
 	@.ci/run
@@ -23,21 +40,29 @@ tests: second
 second:
 	@$(MAKE) --no-print-directory -C tests/second
 
-lib:
-	@mkdir -p build
-	@cp "$$(tests/library)" build/libtervuola.a
-	@echo build/libtervuola.a
+lib: $(LIBRARY)
+	@echo $(LIBRARY)
 
-install: lib
-	install -d $(DESTDIR)$(PREFIX)/lib/pkgconfig $(DESTDIR)$(PREFIX)/include
-	install -m 644 build/libtervuola.a $(DESTDIR)$(PREFIX)/lib/
-	install -m 644 include/tervuola.h $(DESTDIR)$(PREFIX)/include/
-	printf 'prefix=%s\nName: tervuola\nDescription: proved drainage of elevation sheets\nVersion: %s\nCflags: -I$${prefix}/include\nLibs: -L$${prefix}/lib -ltervuola\n' \
-	    "$(PREFIX)" "$(VERSION)" >$(DESTDIR)$(PREFIX)/lib/pkgconfig/tervuola.pc
+$(LIBRARY): $(SOURCES)
+	@tests/library >/dev/null
 
-examples: lib
-	gcc -std=c99 -O2 -Wall -Wextra -Wpedantic -Iinclude -o build/minimal examples/minimal.c build/libtervuola.a
-	gcc -std=c99 -O2 -Wall -Wextra -Wpedantic -Iinclude -o build/tile examples/tile.c build/libtervuola.a -lm
+# an archive that is there is installed without the kit, or refused
+install:
+	@if [ ! -e $(LIBRARY) ]; then $(MAKE) --no-print-directory lib; \
+	elif ! $(MAKE) --no-print-directory -q $(LIBRARY); then echo "$(LIBRARY) is older than the sources: run make lib" >&2; exit 1; fi
+	install -d "$(DESTDIR)$(PREFIX)/lib/pkgconfig" "$(DESTDIR)$(PREFIX)/include"
+	install -m 644 $(LIBRARY) "$(DESTDIR)$(PREFIX)/lib/"
+	install -m 644 include/tervuola.h "$(DESTDIR)$(PREFIX)/include/"
+	@printf '%s\n' "prefix=$(PREFIX)" 'Name: tervuola' 'Description: proved drainage of elevation sheets' 'Version: $(VERSION)' \
+	    'Cflags: -I"$${prefix}/include"' 'Libs: -L"$${prefix}/lib" -ltervuola' >"$(DESTDIR)$(PREFIX)/lib/pkgconfig/tervuola.pc"
+
+examples: compiler build/minimal build/tile
+
+compiler:
+	@.ci/need $(firstword $(CC))
+
+build/minimal build/tile: build/%: examples/%.c include/tervuola.h $(LIBRARY)
+	$(CC) -std=c99 $(CFLAGS) -Wall -Wextra -Wpedantic -Iinclude -o $@ $< $(LIBRARY) -lm
 
 bench:
 	@bench/run

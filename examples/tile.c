@@ -107,7 +107,7 @@ static void read_bil(const char *path, struct tile *t)
         else if (!strcmp(key, "ULXMAP") || !strcmp(key, "ULYMAP") || !strcmp(key, "XDIM") || !strcmp(key, "YDIM")) keep_line(t, line);
     }
     fclose(f);
-    if (rows < 1 || rows > 4000 || cols < 1 || cols > 4000) die(header, "rows and columns are not from 1 to 4000");
+    if (rows < 1 || rows > TERVUOLA_MAX_SIDE || cols < 1 || cols > TERVUOLA_MAX_SIDE) die(header, "rows and columns are not from 1 to 4000");
     if (bits != 16 || bands != 1 || skip != 0) die(header, "is not one band of 16 bits from byte 0 on");
     t->rows = (uint32_t)rows;
     t->cols = (uint32_t)cols;
@@ -132,7 +132,7 @@ static void read_asc(const char *path, struct tile *t)
         at = ftell(f);
     }
     fseek(f, at, SEEK_SET);
-    if (!(rows >= 1 && rows <= 4000 && cols >= 1 && cols <= 4000)) die(path, "rows and columns are not from 1 to 4000");
+    if (!(rows >= 1 && rows <= TERVUOLA_MAX_SIDE && cols >= 1 && cols <= TERVUOLA_MAX_SIDE)) die(path, "rows and columns are not from 1 to 4000");
     t->rows = (uint32_t)rows;
     t->cols = (uint32_t)cols;
     size_t n = (size_t)t->rows * t->cols;

@@ -1,8 +1,9 @@
 /*
  * tervuola.h - drainage of an elevation sheet: fill, flow directions, flow accumulation counts, basins.
  *
- * Every call is proved against the definitions in crates/grid/specs (docs/PROVED.md): for every input and every length of
- * every buffer it gives the number, the place and every element of every result buffer as stated there.
+ * Every call is proved against the definitions in crates/grid/specs (docs/DEFINITIONS.md has them in words, docs/PROVED.md says
+ * what is proved): for every input and every length of every buffer it gives the number, the place and every element of every
+ * result buffer as stated there. The header is C99, and C++.
  *
  * DIRECTION CODING (Jenson and Domingue 1988): north-east is 1, and it goes clockwise.
  *
@@ -25,7 +26,7 @@
  * A refusal (number above 0) leaves every result buffer as it was; a number up to 9 leaves the work buffer as it was too.
  * Otherwise the work buffer's contents are free afterwards.
  *
- * The calls allocate nothing, keep no state, are reentrant, and use at most 512 KiB of stack.
+ * The calls allocate nothing, keep no state, are reentrant and thread-safe, and use at most 512 KiB of stack.
  */
 #ifndef TERVUOLA_H
 #define TERVUOLA_H
@@ -48,6 +49,9 @@
 #define TERVUOLA_NORTH_WEST 64
 #define TERVUOLA_NORTH 128
 
+/* The most rows, and the most columns, of a sheet. */
+#define TERVUOLA_MAX_SIDE 4000
+
 /* The text formats: at most this many bytes, and this many cells. */
 #define TERVUOLA_TEXT_BYTES 11529
 #define TERVUOLA_TEXT_CELLS 2304
@@ -66,7 +70,8 @@ enum tervuola_number {
     TERVUOLA_BAD_ROWS = 5,        /* rows not from 1 to 4,000 */
     TERVUOLA_BAD_COLS = 6,        /* columns not from 1 to 4,000 */
     TERVUOLA_BAD_INPUT = 7,       /* an input sheet has not rows * columns elements */
-    TERVUOLA_BAD_RESULT = 8,      /* a result sheet has not rows * columns elements, or the four columns have unlike lengths */
+    TERVUOLA_BAD_RESULT = 8,      /* a result sheet has not rows * columns elements (one read from text: has fewer), or the four
+                                     columns have unlike lengths */
     TERVUOLA_SHORT_WORK = 9,      /* the work buffer has fewer than 4 * rows * columns elements */
     TERVUOLA_NO_LEVEL = 10,       /* a data cell has no way down; place: the first such cell */
     TERVUOLA_BAD_CODE = 11,       /* a code is neither 0 nor one of the eight; place: the first such cell */
@@ -93,10 +98,13 @@ typedef struct {
     uint32_t cols;
 } tervuola_dimensions;
 
-/* The number of 32-bit elements that a work buffer needs; 0 where rows or columns are refused anyway. */
+/* The number of 32-bit elements that a work buffer needs, for rows and columns in range: a constant where they are constants. */
+#define TERVUOLA_WORK_SIZE(rows, cols) ((size_t)4 * (rows) * (cols))
+
+/* The same, checked: 0 where rows or columns are refused anyway. */
 static inline size_t tervuola_work_size(uint32_t rows, uint32_t cols)
 {
-    return rows < 1 || rows > 4000 || cols < 1 || cols > 4000 ? 0 : (size_t)4 * rows * cols;
+    return rows < 1 || rows > TERVUOLA_MAX_SIDE || cols < 1 || cols > TERVUOLA_MAX_SIDE ? 0 : TERVUOLA_WORK_SIZE(rows, cols);
 }
 
 /* A short sentence for a number. */
@@ -164,6 +172,7 @@ tervuola_answer tervuola_labels(uint32_t rows, uint32_t cols,
 
 /*
  * The four results in one call: the filled sheet, its directions, and the counts and labels of these.
+ * elevations: rows * cols. filled, codes, counts, labels: rows * cols each, the results. work: at least 4 * rows * cols.
  * Numbers: 5 6 7 8 9. Promise: DrainPromise, with demand 3 (Guarantee.antt) for every accepted sheet.
  */
 tervuola_answer tervuola_drain(uint32_t rows, uint32_t cols,
@@ -201,7 +210,8 @@ tervuola_counted tervuola_starts(uint32_t rows, uint32_t cols,
 /*
  * Table 6: for each pair of labels that touch (0 is a label), the lowest pour point between them: smaller label, larger
  * label, elevation and cell, in rising order of the two labels. Reports the number of pairs; places past it are untouched.
- * elevations, labels: rows * cols. The four columns: one length. No work buffer.
+ * elevations, labels: rows * cols. The four columns: one length. No work buffer. To learn the length that is needed call with four
+ * columns of length 0 (null pointers will do): number 14's place is the number of pairs; number 0 says that there are none.
  * Cost for p pairs: one scan of the sheet below 16,384 pairs, else about p / 8,192 + 2 scans; and moves within a sorted batch of
  * 16,384 pairs, at worst (labels that fall along the sheet) some p * p / 2 of them. 10,000 pairs at 4,000 square: seconds.
  * Numbers: 5 6 7 8 14. Promise: PourPointsPromise.
@@ -217,7 +227,7 @@ tervuola_counted tervuola_pour_points(uint32_t rows, uint32_t cols,
 /*
  * Reads a text frame (docs/FORMATS.md) of any bytes into rows, columns and elevations.
  * elevations: at least rows * cols, places past them are untouched; 2,304 always suffice.
- * Numbers: 1 2 3 4 5 6 8. Promise: ReadPromise.
+ * Numbers: 1 2 3 4 5 6 8 (elevations is too short). Promise: ReadPromise.
  */
 tervuola_dimensions tervuola_read(const uint8_t *text, size_t text_len,
                                   int16_t *elevations, size_t elevations_len);

@@ -11,14 +11,22 @@
         }                                                \
     } while (0)
 
+/* the macro is a constant: it can be an array's length */
+static uint32_t work[TERVUOLA_WORK_SIZE(3, 2 + 1)];
+
 int main(void)
 {
     uint32_t k;
+    work[35] = 1;
+    EXPECT(sizeof work == 144 && work[35] == 1);
+    EXPECT(TERVUOLA_WORK_SIZE(TERVUOLA_MAX_SIDE, TERVUOLA_MAX_SIDE) == 64000000u);
+    for (k = 1; k <= TERVUOLA_MAX_SIDE; k++) EXPECT(tervuola_work_size(k, 7) == TERVUOLA_WORK_SIZE(k, 7));
+    EXPECT(tervuola_work_size(TERVUOLA_MAX_SIDE + 1, 1) == 0 && tervuola_work_size(1, TERVUOLA_MAX_SIDE + 1) == 0);
     EXPECT(tervuola_work_size(1, 1) == 4);
     EXPECT(tervuola_work_size(4000, 4000) == 64000000u);
-    EXPECT(tervuola_work_size(4001, 1) == 0);
     EXPECT(tervuola_work_size(0, 1) == 0);
     EXPECT(TERVUOLA_VOID == -32768);
+    EXPECT(TERVUOLA_MAX_SIDE == 4000);
     EXPECT(sizeof(tervuola_answer) == 8 && sizeof(tervuola_counted) == 12 && sizeof(tervuola_dimensions) == 16);
     EXPECT(strcmp(tervuola_text(0), "accepted") == 0);
     for (k = 1; k <= 14; k++) {

@@ -47,6 +47,12 @@ int main(void)
     a = tervuola_watersheds(12, 12, directions, 144, numbers, 144, sheds, 144, work, 576);
     ACCEPTED(a);
     SAME("the watersheds (2g)", sheds, watersheds);
+    /* with columns of length 0 the place is the number of pairs */
+    k = tervuola_pour_points(12, 12, depressionless, 144, sheds, 144, NULL, 0, NULL, 0, NULL, 0, NULL, 0);
+    if (k.number != TERVUOLA_SHORT_COLUMNS || k.place != 12) {
+        printf("paper: number %u and place %u for columns of length 0\n", (unsigned)k.number, (unsigned)k.place);
+        return 1;
+    }
     k = tervuola_pour_points(12, 12, depressionless, 144, sheds, 144, smaller, 20, larger, 20, elevation, 20, cell, 20);
     ACCEPTED(k);
     if (k.count != 12) {
