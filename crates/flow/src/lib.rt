@@ -236,7 +236,7 @@ fn with_code(sum: usize, p: usize, chosen: bool) -> usize
     sum
 }
 
-// Adds up "the sum of the codes of equal neighbours at level k", for a cell of level k + 1, whose word is `word`.
+// For a cell of level k + 1, whose word is `word`: "the sum of the codes of equal neighbours at level k".
 fn flat_sum(
     g: Grid,
     offsets: &[usize; 8],
