@@ -5,11 +5,13 @@ use Prim.Native.Nat.{ℕ}
 use lib.Dec.{eqb}
 use lib.ListN.{getD}
 use lib.IntN.{ℤ, pos, negsuc}
+use Rattle.grid.specs.Below.{table}
 use Rattle.grid.specs.Sheet.{gridOf, eqZ}
 use Rattle.grid.specs.Fill.{filled}
 use Rattle.grid.specs.Directions.{choice, directions}
 use Rattle.grid.specs.Routes.{counts, labels}
-use Rattle.grid.specs.Checks.{fillCheck, drainCheck, codesCheck}
+use Rattle.grid.specs.Ponds.{ponds, pondCount, pondLevel, pondCells, pondVolume}
+use Rattle.grid.specs.Checks.{fillCheck, drainCheck, codesCheck, pondsCheck}
 use Rattle.grid.specs.Frames.{programText}
 
 pub data Case : Type 0 where
@@ -99,13 +101,28 @@ hole =
     pos 5 ∷ pos 5 ∷ pos 5 ∷ pos 5 ∷ pos 5 ∷
     pos 5 ∷ pos 5 ∷ pos 5 ∷ pos 5 ∷ pos 5 ∷ []
 
+-- 4 by 6: a pond of two cells that touch at a corner, and one of a cell whose bank is 5 in the east
+pools : List ℤ
+pools =
+    pos 9 ∷ pos 9 ∷ pos 9 ∷ pos 9 ∷ pos 9 ∷ pos 9 ∷
+    pos 9 ∷ pos 3 ∷ pos 9 ∷ pos 9 ∷ pos 2 ∷ pos 5 ∷
+    pos 9 ∷ pos 9 ∷ pos 4 ∷ pos 9 ∷ pos 9 ∷ pos 9 ∷
+    pos 9 ∷ pos 9 ∷ pos 9 ∷ pos 9 ∷ pos 9 ∷ pos 9 ∷ []
+
+poolNumbers : List ℕ
+poolNumbers =
+    0 ∷ 0 ∷ 0 ∷ 0 ∷ 0 ∷ 0 ∷
+    0 ∷ 1 ∷ 0 ∷ 0 ∷ 2 ∷ 0 ∷
+    0 ∷ 0 ∷ 1 ∷ 0 ∷ 0 ∷ 0 ∷
+    0 ∷ 0 ∷ 0 ∷ 0 ∷ 0 ∷ 0 ∷ []
+
 basinCodes : List ℕ
 basinCodes = directions (gridOf 5 5) basin
 
 -- ---- the table
 
 unfoldable pub knownGround : List Case
-unfolding printed-input printed-output voids between middle basin hole basinCodes
+unfolding printed-input printed-output voids between middle basin hole pools poolNumbers basinCodes
 knownGround =
     -- P1: the printed example, from text to text
     numbers (programText printed-input) printed-output
@@ -132,6 +149,13 @@ knownGround =
     ∷ numbers (getD (counts (gridOf 5 5) basinCodes) 14 0 ∷ getD basinCodes 12 0 ∷ []) (9 ∷ 2 ∷ [])
     -- P10: the code at row 1, column 1
     ∷ numbers (getD (directions (gridOf 5 5) hole) 6 0 ∷ []) (4 ∷ [])
+    -- ponds: their numbers, how many they are, and the three columns; columns too short get 14 with that number as place
+    ∷ numbers (ponds (gridOf 4 6) pools) poolNumbers
+    ∷ numbers (pondCount (gridOf 4 6) pools ∷ []) (2 ∷ [])
+    ∷ elevations (table 2 (pondLevel (gridOf 4 6) (filled (gridOf 4 6) pools) poolNumbers)) (pos 9 ∷ pos 5 ∷ [])
+    ∷ numbers (table 2 (pondCells (gridOf 4 6) poolNumbers)) (2 ∷ 1 ∷ [])
+    ∷ numbers (table 2 (pondVolume (gridOf 4 6) pools (filled (gridOf 4 6) pools) poolNumbers)) (11 ∷ 3 ∷ [])
+    ∷ numbers ((pondsCheck (gridOf 4 6) pools 24 1 1 1 96) .number ∷ (pondsCheck (gridOf 4 6) pools 24 1 1 1 96) .place ∷ []) (14 ∷ 2 ∷ [])
     -- "Rows 4,000 passes, 4,001 gets 5. Codes 2 and 32 side by side, facing each other, get 12"
     ∷ numbers ((fillCheck (gridOf 4000 1) 4000 4000 16000) .number ∷ []) (0 ∷ [])
     ∷ numbers ((fillCheck (gridOf 4001 1) 4001 4001 16004) .number ∷ []) (5 ∷ [])
