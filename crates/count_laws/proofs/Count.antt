@@ -10,12 +10,12 @@ use borrow.Author.Tests.{eqb-true, eq-eqb, ne-eqb}
 use Rattle.grid.specs.Below.{has, sumBelow, countBelow}
 use Rattle.grid.specs.Routes.{follow}
 use Rattle.grid_laws.proofs.Tests.{test, true-false, and-false-right}
-use Rattle.grid_laws.proofs.Below.{sum-ext, sum-zero}
+use Rattle.grid_laws.proofs.Below.{sum-ext, sum-zero, sum-plus, sum-swap}
 use Rattle.route_laws.specs.Ends.{EndsIn, Ends}
 use Rattle.grid_laws.proofs.Few.{no-in-has}
 use Rattle.route_laws.proofs.Routes.{follow-dead, in-live, same-length, short, route-step, route-not-again}
 use Rattle.count_laws.specs.Inflow.{routeCount, markOf, inflow, Flow}
-use Rattle.count_laws.proofs.Sums.{same?, sum-plus, sum-one, sum-more, sum-swap}
+use Rattle.count_laws.proofs.Sums.{same?, sum-one, sum-more}
 
 abbrev bit : Bool → ℕ
 bit b = cond b 1 0

@@ -9,9 +9,9 @@ use lib.Dec.{eqb}
 use borrow.Author.Tests.{eq-eqb, ne-eqb}
 use Rattle.grid.specs.Below.{sumBelow, countBelow}
 use Rattle.grid_laws.proofs.Tests.{true-false, cond-true, cond-false}
-use Rattle.grid_laws.proofs.Below.{sum-ext, sum-zero, count-suc}
+use Rattle.grid_laws.proofs.Below.{sum-ext, sum-zero, count-suc, count-grows}
 use Rattle.count_laws.specs.Passing.{awaited, tally, isDone, undone, DonorsTo, FewDonors, Passing}
-use Rattle.count_laws.proofs.Sums.{same?, none-waiting, sum-ones, count-grows}
+use Rattle.count_laws.proofs.Sums.{same?, none-waiting, sum-ones}
 use Rattle.count_laws.proofs.Words.{small-waiting, awaited-word, tally-word}
 
 module _ (n : ℕ) (mark : ℕ → ℕ) where

@@ -13,13 +13,13 @@ use Rattle.grid.specs.Below.{sumBelow, countBelow}
 use Rattle.grid.specs.Sheet.{size, neighbour}
 use Rattle.grid.specs.Routes.{positionAt, hasCode, receiver}
 use Rattle.grid_laws.proofs.Tests.{test, cond-true, cond-false}
-use Rattle.grid_laws.proofs.Below.{sum-zero, part-≤-sum}
+use Rattle.grid_laws.proofs.Below.{sum-zero, part-≤-sum, sum-swap}
 use Rattle.grid_laws.proofs.Neighbours.{opposite, opposite-small, step-back}
 use Rattle.route_laws.specs.Receivers.{receiverMark}
 use Rattle.route_laws.proofs.Receivers.{code-below}
 use Rattle.count_laws.specs.Inflow.{markOf, Flow}
 use Rattle.count_laws.specs.Passing.{FewDonors}
-use Rattle.count_laws.proofs.Sums.{same?, sum-le, sum-ones, sum-swap}
+use Rattle.count_laws.proofs.Sums.{same?, sum-le, sum-ones}
 use Rattle.count_laws.proofs.Count.{mark-flow}
 
 -- at most one number below n is x

@@ -1,12 +1,12 @@
 -- Sums over the numbers below n.
-use mathlib.Core.Path.{_≡_, refl, sym, _∙_, ap}
+use mathlib.Core.Path.{_≡_, refl, sym, ap}
 use mathlib.Core.Logic.{_⊎_, inl, inr, ⊎-elim}
 use mathlib.Core.Bool.{Bool, true, false, cond, _&&_}
 use Prim.Native.Nat.{ℕ, zero, suc, _+_, _≤_, _<_}
 use native.Mathlib.Omega.{arith}
 use lib.Dec.{eqb}
 use borrow.Author.Tests.{eqb-true, eqb-false}
-use Rattle.grid.specs.Below.{sumBelow, countBelow}
+use Rattle.grid.specs.Below.{sumBelow}
 use Rattle.grid_laws.proofs.Tests.{test}
 use Rattle.grid_laws.proofs.Below.{sum-ext, sum-zero, part-≤-sum}
 
@@ -18,21 +18,10 @@ pub none-waiting : (b e : Bool) (v : ℕ) → e ≡ false → cond (b && e) v 0 
 none-waiting true e v q = rw q
 none-waiting false e v q = refl
 
-pub sum-plus : (n : ℕ) (f g : ℕ → ℕ) → sumBelow n (λ k. f k + g k) ≡ sumBelow n f + sumBelow n g
-unfolding sumBelow
-sum-plus zero f g = refl
-sum-plus (suc n) f g = let a = sum-plus n f g in omega arith
-
 pub sum-le : (n : ℕ) (f g : ℕ → ℕ) → ((k : ℕ) → k < n → f k ≤ g k) → sumBelow n f ≤ sumBelow n g
 unfolding sumBelow
 sum-le zero f g h = omega arith
 sum-le (suc n) f g h = let a = sum-le n f g (λ k l. h k (omega arith)) in let b = h n (omega arith) in omega arith
-
--- two sums change places
-pub sum-swap : (n m : ℕ) (f : ℕ → ℕ → ℕ) → sumBelow n (λ d. sumBelow m (λ p. f d p)) ≡ sumBelow m (λ p. sumBelow n (λ d. f d p))
-unfolding sumBelow
-sum-swap zero m f = sym (sum-zero m (λ p. 0) (λ k l. refl))
-sum-swap (suc n) m f = ap (λ (x : ℕ). x + sumBelow m (f n)) (sum-swap n m f) ∙ sym (sum-plus m (λ p. sumBelow n (λ d. f d p)) (f n))
 
 -- one term grows
 pub sum-more : (n j v : ℕ) (f g : ℕ → ℕ) → j < n → g j ≡ f j + v → ((k : ℕ) → k < n → (k ≡ j → ⊥) → g k ≡ f k) →
@@ -84,10 +73,3 @@ pub sum-ones : (n : ℕ) → sumBelow n (λ k. 1) ≡ n
 unfolding sumBelow
 sum-ones zero = refl
 sum-ones (suc n) = let a = sum-ones n in omega arith
-
--- a count grows with the numbers that are asked
-pub count-grows : (i n : ℕ) (p : ℕ → Bool) → i ≤ n → countBelow i p ≤ countBelow n p
-unfolding countBelow sumBelow
-count-grows i zero p h = rw (let e : i ≡ 0 = omega arith in e) (omega arith)
-count-grows i (suc n) p h =
-    ⊎-elim (λ e. rw e (omega arith)) (λ f. let a = count-grows i n p (omega arith) in omega arith) (same? i (suc n))

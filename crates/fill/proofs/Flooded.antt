@@ -25,7 +25,7 @@ use Rattle.key_sort.specs.Order.{Ahead}
 use Rattle.flood_laws.specs.Flood.{CellOf, NextTo, OutletOf, Between}
 use Rattle.flood_laws.proofs.Steps.{next-back}
 use Rattle.flood_laws.proofs.Marks.{at-most}
-use Rattle.fill_laws.specs.Filling.{Way, stop, step}
+use Rattle.join_laws.specs.Ways.{Way, stop, step}
 use Rattle.fill_laws.specs.Certificate.{DataNeighbours, Certificate}
 use Rattle.fill_laws.proofs.Left.{some-way}
 use Rattle.fill_laws.proofs.Certified.{certificate-filled}

@@ -2,17 +2,17 @@
 use mathlib.Core.Path.{_≡_, _∙_}
 use mathlib.Core.Logic.{_⊎_, inl, inr, ⊎-elim}
 use mathlib.Core.List.{List}
-use Prim.Native.Nat.{ℕ, _+_, _≤_, _<_}
+use Prim.Native.Nat.{ℕ, _+_, _<_}
 use native.Mathlib.Omega.{arith}
-use native.Mathlib.Decide.{ℕ-discrete, decLt}
-use lib.ListN.{length, getD, set, List·getD-eq-default}
+use native.Mathlib.Decide.{ℕ-discrete}
+use lib.ListN.{length, getD, set}
 use lib.Seq.{getD-set-same, getD-set-other}
 use lib.IntN.{ℤ}
 use lib.Signed.{_≤ℤ_}
 use Rattle.grid.specs.Sheet.{void, top, at}
 use Rattle.grid_laws.proofs.Cells.{InRange}
 use Rattle.cells.specs.Keys.{keyOf}
-use Rattle.cells.proofs.Keys.{least, void-top}
+use Rattle.fill.proofs.Words.{in-range}
 
 -- what a store leaves at each index
 at-set : {A : Type 0} (d : A) (l : List A) (i : ℕ) (v : A) → i < length l → (x : ℕ) →
@@ -36,11 +36,7 @@ load-more e w i v hw k r L x h =
     (at-set 0 w i v hw x)
 
 pub load-end : (e : List ℤ) (w : List ℕ) → LoadTo e w (length e) → InRange e
-load-end e w L x = go (decLt x (length e))
-  where
-    go : Dec (x < length e) → (void ≤ℤ at e x) × (at e x ≤ℤ top)
-    go (yes h) = let q = L x h in (q .1, q .2)
-    go (no f) = let q : length e ≤ x = omega arith in rw (List·getD-eq-default e void q) (least, void-top)
+load-end e w L = in-range e (λ x h. let q = L x h in (q .1, q .2))
 
 -- the first i levels are unloaded
 pub unload-more : (f : ℕ → ℤ) (out : List ℤ) (i : ℕ) (v : ℤ) → i < length out → v ≡ f i → ((c : ℕ) → c < i → at out c ≡ f c) → (c : ℕ) →

@@ -12,10 +12,12 @@ ghost use Rattle.grid.specs.Sheet.{size, at};
 ghost use Rattle.grid.specs.Fill.{filled as filled'};
 ghost use Rattle.grid.specs.Promises.{FillPromise};
 ghost use Rattle.cells.specs.Keys.{keyOf, levelOf};
+ghost use Rattle.key_sort.specs.Order.{AreKeys};
+ghost use Rattle.fill.specs.Words.{sheetIn, Words};
 ghost use Rattle.grid_laws.proofs.Cells.{InRange};
 
 // Puts the keys of the elevations first into the work buffer.
-fn load(elevations: &[i16], work: &mut [u32])
+pub fn load(elevations: &[i16], work: &mut [u32])
     requires { ⌜ length (now elevations) ≤ length (now work) ⌝ }
     ensures { λ r. ⌜ ((c : ℕ) → c < length (now (elevations .entry)) →
         getD (now (work .exit)) c 0 ≡ keyOf (at (now (elevations .entry)) c)) ⌝ }
@@ -28,8 +30,22 @@ fn load(elevations: &[i16], work: &mut [u32])
     }
 }
 
+// Floods the sheet whose keys stand in the work buffer: each word is then the cell's key, and above it the filled one.
+pub fn fill_words(g: Grid, work: &mut [u32])
+    requires { ⌜ size g < 2 ^ 24 ⌝ }
+    requires { ⌜ g .cols < 2 ^ 24 ⌝ }
+    requires { ⌜ 4 * size g ≤ length (now work) ⌝ }
+    requires { ⌜ AreKeys (size g) (now work) ⌝ }
+    ensures { λ r. ⌜ Words g (sheetIn (size g) (now (work .entry))) (now (work .exit)) ⌝ }
+{
+    let n = g.rows * g.cols;
+    let half = work.len() / 2;
+    key_sort::sort(n, work);
+    flood::flood(g, half, work);
+}
+
 // Puts the levels of the flood, above the keys, as elevations into `filled`.
-fn unload(n: usize, work: &[u32], filled: &mut [i16])
+pub fn unload(n: usize, work: &[u32], filled: &mut [i16])
     requires { ⌜ n ≤ length (now work) ⌝ }
     requires { ⌜ length (now filled) ≡ n ⌝ }
     ensures { λ r. ⌜ ((c : ℕ) → c < n → at (now (filled .exit)) c ≡ levelOf (getD (now (work .entry)) c 0 / 65536)) ⌝ }
@@ -52,10 +68,8 @@ pub fn fill_into(g: Grid, elevations: &[i16], filled: &mut [i16], work: &mut [u3
     ensures { λ r. ⌜ InRange (now (elevations .entry)) ⌝ }
 {
     let n = g.rows * g.cols;
-    let half = work.len() / 2;
     load(elevations, work);
-    key_sort::sort(n, work);
-    flood::flood(g, half, work);
+    fill_words(g, work);
     unload(n, work, filled);
 }
 

@@ -31,10 +31,10 @@ use Rattle.grid_laws.proofs.Tests.{test, T-true, true-T, true-false, not-false-
 use Rattle.grid_laws.proofs.Order.{≤ℤ-trans, ≤ℤ-antisym, ≤ℤ-of-eq}
 use Rattle.grid_laws.proofs.Cells.{InRange, void-no-data, no-data-void}
 use Rattle.grid_laws.proofs.Outlets.{same-outlets}
-use Rattle.fill_laws.specs.Filling.{stop, step, Falls, Filling}
+use Rattle.join_laws.specs.Ways.{stop, step, cells}
+use Rattle.fill_laws.specs.Filling.{Falls, Filling}
 use Rattle.fill_laws.specs.Certificate.{DataNeighbours}
 use Rattle.fill_laws.proofs.Squeeze as Squeeze
-use Rattle.fill_laws.proofs.Squeeze.{cells}
 use Rattle.fill_laws.proofs.Passes.{filling, length-passes, passes-void}
 use Rattle.fill_laws.proofs.Left.{some-way}
 use Rattle.fill_laws.proofs.Paths.{WayOut, way-of-path, path-of-way, highest-peak, never-rises-falls, falls-never-rises}

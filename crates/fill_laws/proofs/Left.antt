@@ -15,7 +15,7 @@ use Rattle.grid_laws.proofs.Tests.{test, T-true, true-T}
 use Rattle.grid_laws.proofs.Cells.{on-sheet}
 use Rattle.grid_laws.proofs.Neighbours.{west-lower}
 use Rattle.grid_laws.proofs.Outlets.{inner-data}
-use Rattle.fill_laws.specs.Filling.{Way, stop, step}
+use Rattle.join_laws.specs.Ways.{Way, stop, step}
 use Rattle.fill_laws.specs.Certificate.{DataNeighbours}
 
 module _ (g : Grid) (e : List ℤ) (cells : length e ≡ size g) where

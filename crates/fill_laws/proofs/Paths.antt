@@ -8,9 +8,9 @@ use Rattle.grid.specs.Below.{headOf, lastOf}
 use Rattle.grid.specs.Sheet.{size, at, higher, DataCell, Chain, NeverRises, highest}
 use Rattle.grid.specs.Outlet.{Outlet}
 use Rattle.grid.specs.Guarantee.{PathToOutlet}
-use Rattle.fill_laws.specs.Filling.{Way, stop, step, peak, Falls}
+use Rattle.fill_laws.specs.Filling.{peak, Falls}
+use Rattle.join_laws.specs.Ways.{Way, stop, step, cells}
 use Rattle.fill_laws.specs.Certificate.{DataNeighbours}
-use Rattle.fill_laws.proofs.Squeeze.{cells}
 use Rattle.fill_laws.proofs.Passes.{outlet-cell}
 
 -- a way to an outlet of the sheet

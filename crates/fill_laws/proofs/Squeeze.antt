@@ -1,8 +1,7 @@
 -- The laws of a filling, with no geometry: a certified sheet is what stands after as many passes as there are cells; that sheet is at most
 -- the highest elevation of every way to an outlet; one pass more changes nothing; it is at most every drained sheet, and drains itself.
-use mathlib.Core.Path.{_≡_, sym, _∙_, subst}
+use mathlib.Core.Path.{_≡_, refl, sym, _∙_, ap, subst}
 use mathlib.Core.Logic.{_⊎_, inl, inr, ⊎-elim}
-use mathlib.Core.List.{List, [], _∷_}
 use Prim.Native.Nat.{ℕ, zero, suc, _+_, _-_, _≤_, _<_}
 use native.Mathlib.Omega.{arith}
 use lib.ListN.{length}
@@ -11,15 +10,12 @@ use lib.Dec.{T, ltb→lt, leb→le}
 use lib.Signed.{leZ, ltZ, _≤ℤ_, _<ℤ_, ≤ℤ-refl}
 use Rattle.grid.specs.Below.{In, Distinct}
 use Rattle.grid.specs.Sheet.{void, top, higher}
-use Rattle.fill_laws.specs.Filling.{Way, stop, step, peak, Falls, Filling}
+use Rattle.fill_laws.specs.Filling.{peak, Falls, Filling}
 use Rattle.fill_laws.specs.Certificate.{Reached, Certificate}
-use Rattle.grid_laws.proofs.Order.{≤ℤ-trans, ≤ℤ-antisym, ≤ℤ-of-eq, ≤ℤ-or-<, ≤-higher-right, higher-≤, higher-mono}
-use Rattle.grid_laws.proofs.Few.{in?, few}
-
--- the cells of a way, first and last included
-unfoldable pub cells : {Out : ℕ → Type 0} {Next : ℕ → ℕ → Type 0} {c : ℕ} → Way Out Next c → List ℕ
-cells (stop {c = c} o) = c ∷ []
-cells (step {c = c} b w) = c ∷ cells w
+use Rattle.grid_laws.proofs.Order.{≤ℤ-trans, ≤ℤ-antisym, ≤ℤ-of-eq, ≤ℤ-or-<, ≤-higher-left, ≤-higher-right, higher-≤, higher-mono}
+use Rattle.grid_laws.proofs.Few.{few}
+use Rattle.join_laws.specs.Ways.{Way, stop, step, cells}
+use Rattle.join_laws.proofs.Ways.{once}
 
 -- the elevation above the void
 height : ℤ → ℕ
@@ -132,38 +128,25 @@ module _ {size : ℕ} {Cell Out : ℕ → Type 0} {Next : ℕ → ℕ → Type 0
       some (step b w) h = omega arith
   within (suc k) (step {c = c} {n = n} b w) h = ≤ℤ-trans (L .by-next k c n b) (higher-mono (≤ℤ-refl (e c)) (within k w (omega arith)))
 
-  -- a way from x that comes to no cell twice and to no elevation above z
-  Simple : ℕ → ℤ → Type 0
-  Simple x z = (w : Way Out Next x) × Distinct (cells w) × (peak e w ≤ℤ z)
+  -- a way's peak is the highest of its cells
+  ≤-peak-of : {c : ℕ} (w : Way Out Next c) (x : ℕ) → In x (cells w) → e x ≤ℤ peak e w
+  unfolding peak cells
+  ≤-peak-of (stop {c = c} o) x (inl q) = ≤ℤ-of-eq (ap e q)
+  ≤-peak-of (stop o) x (inr h) = absurd h
+  ≤-peak-of (step {c = c} b w) x (inl q) = ≤ℤ-trans (≤ℤ-of-eq (ap e q)) (≤-higher-left (e c) (peak e w))
+  ≤-peak-of (step {c = c} b w) x (inr h) = ≤ℤ-trans (≤-peak-of w x h) (≤-higher-right (e c) (peak e w))
 
-  -- a way's rest, from a cell that it comes to
-  rest : {c : ℕ} (w : Way Out Next c) (x : ℕ) → In x (cells w) → Distinct (cells w) → Simple x (peak e w)
-  unfolding Simple peak cells
-  rest (stop {c = c} o) x (inl q) u = subst (λ (z : ℕ). Simple z (e c)) (sym q) (stop o, u, ≤ℤ-refl (e c))
-  rest (stop o) x (inr h) u = absurd h
-  rest (step {c = c} b w) x (inl q) u =
-      let p : ℤ = higher (e c) (peak e w) in subst (λ (z : ℕ). Simple z p) (sym q) (step b w, u, ≤ℤ-refl p)
-  rest (step {c = c} b w) x (inr h) u = let r = rest w x h (u .1) in (r .0, r .1, ≤ℤ-trans (r .2) (≤-higher-right (e c) (peak e w)))
-
-  simple : {c : ℕ} (w : Way Out Next c) → Simple c (peak e w)
-  unfolding Simple peak cells
-  simple (stop {c = c} o) = (stop o, (λ h. h, tt), ≤ℤ-refl (e c))
-  simple (step {c = c} {n = n} b w) = go (simple w)
-    where
-      go : Simple n (peak e w) → Simple c (higher (e c) (peak e w))
-      go r =
-          ⊎-elim
-          (λ h. let s = rest (r .0) c h (r .1) in (s .0, s .1, ≤ℤ-trans (s .2) (≤ℤ-trans (r .2) (≤-higher-right (e c) (peak e w)))))
-          (λ f. (step b (r .0), (f, r .1), higher-mono (≤ℤ-refl (e c)) (r .2)))
-          (in? c (cells (r .0)))
+  peak-of-≤ : {c : ℕ} (w : Way Out Next c) (z : ℤ) → ((x : ℕ) → In x (cells w) → e x ≤ℤ z) → peak e w ≤ℤ z
+  unfolding peak cells
+  peak-of-≤ (stop {c = c} o) z h = h c (inl refl)
+  peak-of-≤ (step {c = c} b w) z h = higher-≤ (h c (inl refl)) (peak-of-≤ w z (λ x i. h x (inr i)))
 
   -- ---- minimax: after all passes a cell is at most the peak of every way from it
   pub ≤-peak : {c : ℕ} (w : Way Out Next c) → F size c ≤ℤ peak e w
-  unfolding Simple
   ≤-peak w =
-      let r = simple w in
+      let r = once Out Next w in
       let h : length (cells (r .0)) ≤ size = few size (cells (r .0)) (r .1) (on (r .0)) in
-      ≤ℤ-trans (within size (r .0) (omega arith)) (r .2)
+      ≤ℤ-trans (within size (r .0) (omega arith)) (peak-of-≤ (r .0) (peak e w) (λ x i. ≤-peak-of w x (r .2 x i)))
 
   -- and after each pass it is at least the peak of some way, or at the top
   peak-≤-pass : (k c : ℕ) → Cell c → (top ≤ℤ F k c) ⊎ ((w : Way Out Next c) × (peak e w ≤ℤ F k c))

@@ -6,11 +6,7 @@ use Prim.Native.Nat.{ℕ, suc, _<_}
 use lib.IntN.{ℤ}
 use lib.Signed.{_≤ℤ_}
 use Rattle.grid.specs.Sheet.{void, top, higher}
-
--- a way from the cell c to an outlet: a chain by induction
-pub data Way (Out : ℕ → Type 0) (Next : ℕ → ℕ → Type 0) : ℕ → Type 0 where
-  stop : {c : ℕ} → Out c → Way Out Next c
-  step : {c n : ℕ} → Next c n → Way Out Next n → Way Out Next c
+use Rattle.join_laws.specs.Ways.{Way, stop, step}
 
 module _ {Out : ℕ → Type 0} {Next : ℕ → ℕ → Type 0} where
   -- the highest elevation on a way

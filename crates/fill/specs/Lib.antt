@@ -1,0 +1,3 @@
+-- What the fill's contracts speak of.
+--   Words   the sheet that keys spell, and the flood's words
+pub mod Words

@@ -1,0 +1,7 @@
+-- Laws of joined cells, by topic:
+--   Ways      a way needs no cell twice
+--   Joined    what is joined by passes is what has a way
+--   Search    what the steps of a search make of its state
+pub mod Ways
+pub mod Joined
+pub mod Search
