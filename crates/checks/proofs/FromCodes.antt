@@ -16,7 +16,8 @@ use Rattle.grid.specs.Checks.{accepted, refusal, askSheets, askWork, askCodes, 
 use Rattle.grid.specs.Promises.{resultOf, WorkBuffer}
 use Rattle.grid_laws.proofs.Tests.{cond-true, cond-false}
 use Rattle.checks.specs.Sizes.{Fits}
-use Rattle.checks.proofs.Asked.{Passed, passed, refused, have-first, one-input}
+use Rattle.checks.proofs.Gate.{Gate, passed, answered-no, answered-yes, is-accepted}
+use Rattle.checks.proofs.Asked.{Sized, check-gate, one-input}
 use Rattle.checks.proofs.Questions.{bad-≤, endless-≤, codes-bad, codes-endless, codes-yes}
 
 -- what both calls promise
@@ -32,47 +33,40 @@ pub record Sizes (g : Grid) (codes k₀ w₀ : List ℕ) : Type 0 where
   pub result-long : length k₀ ≡ size g
   pub room : 4 * size g ≤ length w₀
 
--- the lengths that `check` is asked about: both lists of codes, all four results are one
-abbrev inputs : List ℕ → List ℕ
-inputs codes = length codes ∷ length codes ∷ []
-
-abbrev results : List ℕ → List ℕ
-results k₀ = length k₀ ∷ length k₀ ∷ length k₀ ∷ length k₀ ∷ []
-
 module _ (g : Grid) (codes k₀ w₀ : List ℕ) (r : Answer)
-    (asked : r ≡ askSheets g (inputs codes) (results k₀) (askWork g (length w₀) accepted)) where
-  number-asked : (askSheets g (inputs codes) (results k₀) (askWork g (length w₀) accepted)) .number ≡ r .number
-  number-asked = ap (λ (a : Answer). a .number) (sym asked)
+    (asked : r ≡ askSheets g (length codes ∷ length codes ∷ []) (length k₀ ∷ length k₀ ∷ length k₀ ∷ length k₀ ∷ [])
+    (askWork g (length w₀) accepted)) where
+  -- what 11 and 12 are asked after
+  before-11 : Gate (λ later. askSheets g (length codes ∷ []) (length k₀ ∷ []) (askWork g (length w₀) later))
+      (Sized g (length codes ∷ []) (length k₀ ∷ []) (length w₀))
+  before-11 = check-gate g (length codes ∷ []) (length k₀ ∷ []) (length w₀)
 
-  whole : askSheets g (inputs codes) (results k₀) (askWork g (length w₀) (askCodes g codes accepted))
-      ≡ codesCheck g codes (length k₀) (length w₀)
-  unfolding codesCheck
-  whole = one-input g (length codes) (length k₀) (askWork g (length w₀) (askCodes g codes accepted))
+  answered : r ≡ askSheets g (length codes ∷ []) (length k₀ ∷ []) (askWork g (length w₀) accepted)
+  answered = asked ∙ one-input g (length codes) (length k₀) (askWork g (length w₀) accepted)
 
   pub refused-promise : {made : List ℕ} → (r .number ≡ 0 → ⊥) → FromCodes g codes made k₀ k₀ w₀ w₀ r
+  unfolding codesCheck
   refused-promise {made} n =
-      let f = refused g (inputs codes) (results k₀) (length w₀) (λ e. n (sym number-asked ∙ e)) in
       record {
-        answer = asked ∙ sym (f .stands (askCodes g codes accepted)) ∙ whole;
+        answer = answered-no before-11 answered n (askCodes g codes accepted);
         result = sym (cond-false made k₀ (ne-eqb (r .number) 0 n));
         work = record { same-length = refl; untouched = λ l h. refl };
       }
 
   module _ (yes : r .number ≡ 0) where
-    pass : Passed g (inputs codes) (results k₀) (length w₀)
-    pass = passed g (inputs codes) (results k₀) (length w₀) (number-asked ∙ yes)
-
     pub sizes : Sizes g codes k₀ w₀
     sizes =
+        let s = passed before-11 answered yes .fact in
         record {
-          fits = pass .fits;
-          codes-long = have-first (size g) (length codes) (length codes ∷ []) (pass .inputs-have);
-          result-long = have-first (size g) (length k₀) (length k₀ ∷ length k₀ ∷ length k₀ ∷ []) (pass .results-have);
-          room = pass .room;
+          fits = s .fits;
+          codes-long = s .inputs-have .0;
+          result-long = s .results-have .0;
+          room = s .room;
         }
 
     check-is : askCodes g codes accepted ≡ codesCheck g codes (length k₀) (length w₀)
-    check-is = sym (pass .then (askCodes g codes accepted)) ∙ whole
+    unfolding codesCheck
+    check-is = answered-yes before-11 answered yes (askCodes g codes accepted)
 
     pub bad-promise : {made : List ℕ} (bad : ℕ) → bad ≡ firstBadCode g codes → bad < length codes
         → FromCodes g codes made k₀ k₀ w₀ w₀ (refusal 11 bad)
@@ -104,7 +98,7 @@ module _ (g : Grid) (codes k₀ w₀ : List ℕ) (r : Answer)
           let b = endless-≤ g codes in
           let q : first ≡ size g = omega arith in
           record {
-            answer = asked ∙ pass .then accepted ∙ sym (codes-yes g codes accepted good (sym is ∙ q)) ∙ check-is;
+            answer = is-accepted before-11 answered yes ∙ sym (codes-yes g codes accepted good (sym is ∙ q)) ∙ check-is;
             result = stands ∙ cond-true made k₀ (eq-eqb first (size g) q) ∙ sym (cond-true made k₀ (eq-eqb (r .number) 0 yes));
             work = record { same-length = same; untouched = λ l h. let z : ⊥ = omega arith in absurd z };
           }

@@ -1,4 +1,5 @@
--- What the questions come to: 5 to 9 for each call, 11 and 12 about codes, and all of them for the calls from codes to counts and labels.
+-- How questions compose; 5 to 9 for each call, 11 and 12 about codes, and all of them for the calls from codes to counts and labels.
+pub mod Gate
 pub mod Asked
 pub mod Questions
 pub mod FromCodes

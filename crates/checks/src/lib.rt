@@ -1,11 +1,13 @@
-// The questions that every call with sheets asks first, 5 to 9 of "Questions at the gate", answered by one function on the lengths of its
-// lists. `proofs/Asked.antt` carries the answer to each call's own definition in `grid`: what is asked after it, and the sizes after a
-// yes.
+// The questions that every call with sheets asks first, 5 to 9 of "Questions at the gate", answered on the lengths of its lists by three
+// functions, each one question longer than the one before. `proofs/Gate.antt` carries an answer to each call's own definition in `grid`:
+// what is asked after it, and what a yes says.
 use grid::Answer;
 use grid::Grid;
 ghost use mathlib.Core.Path.{_≡_};
 ghost use mathlib.Core.List.{[], _∷_};
-ghost use Prim.Native.Nat.{_*_, _<_};
+ghost use Prim.Native.Nat.{_*_, _<_, _^_};
+ghost use lib.Dec.{leb};
+ghost use Rattle.grid.specs.Sheet.{size};
 ghost use Rattle.grid.specs.Checks.{accepted, inRange, allHave, askSheets, askWork};
 
 // "from 1 to 4,000", in questions 5 and 6, which the reader asks too.
@@ -19,7 +21,7 @@ pub fn in_range(k: usize) -> bool
 }
 
 // Whether both have `n` elements.
-fn both_have(n: usize, a: usize, b: usize) -> bool
+pub fn both_have(n: usize, a: usize, b: usize) -> bool
     ensures { λ r. ⌜ r ≡ allHave n (a ∷ b ∷ []) ⌝ }
 {
     if a != n {
@@ -41,18 +43,17 @@ fn all_have(n: usize, a: usize, b: usize, c: usize, d: usize) -> bool
     both_have(n, c, d)
 }
 
-// 5 to 9, for two input sheets, four result sheets and a work buffer. A call with fewer names one of them again.
-pub fn check(
-    g: Grid,
-    first: usize,
-    second: usize,
-    a: usize,
-    b: usize,
-    c: usize,
-    d: usize,
-    work: usize,
-) -> Answer
-    ensures { λ r. ⌜ r ≡ askSheets g (first ∷ second ∷ []) (a ∷ b ∷ c ∷ d ∷ []) (askWork g work accepted) ⌝ }
+// "at least 4 × rows × columns", in question 9.
+pub fn has_room(g: Grid, work: usize) -> bool
+    requires { ⌜ size g < 2 ^ 24 ⌝ }
+    ensures { λ r. ⌜ r ≡ leb (4 * size g) work ⌝ }
+{
+    4 * (g.rows * g.cols) <= work
+}
+
+// 5 to 7, for two input sheets. A call with one names it again.
+pub fn inputs(g: Grid, first: usize, second: usize) -> Answer
+    ensures { λ r. ⌜ r ≡ askSheets g (first ∷ second ∷ []) [] accepted ⌝ }
 {
     if !in_range(g.rows) {
         return Answer {
@@ -66,22 +67,9 @@ pub fn check(
             place: 0,
         };
     }
-    let n = g.rows * g.cols;
-    if !both_have(n, first, second) {
+    if !both_have(g.rows * g.cols, first, second) {
         return Answer {
             number: 7,
-            place: 0,
-        };
-    }
-    if !all_have(n, a, b, c, d) {
-        return Answer {
-            number: 8,
-            place: 0,
-        };
-    }
-    if work < 4 * n {
-        return Answer {
-            number: 9,
             place: 0,
         };
     }
@@ -89,4 +77,55 @@ pub fn check(
         number: 0,
         place: 0,
     }
+}
+
+// 5 to 8, for two input sheets and four result sheets. A call with fewer names one of them again.
+pub fn sheets(
+    g: Grid,
+    first: usize,
+    second: usize,
+    a: usize,
+    b: usize,
+    c: usize,
+    d: usize,
+) -> Answer
+    ensures { λ r. ⌜ r ≡ askSheets g (first ∷ second ∷ []) (a ∷ b ∷ c ∷ d ∷ []) accepted ⌝ }
+{
+    let answer = inputs(g, first, second);
+    if answer.number != 0 {
+        return answer;
+    }
+    if !all_have(g.rows * g.cols, a, b, c, d) {
+        return Answer {
+            number: 8,
+            place: 0,
+        };
+    }
+    answer
+}
+
+// 5 to 9: the same, and a work buffer.
+pub fn check(
+    g: Grid,
+    first: usize,
+    second: usize,
+    a: usize,
+    b: usize,
+    c: usize,
+    d: usize,
+    work: usize,
+) -> Answer
+    ensures { λ r. ⌜ r ≡ askSheets g (first ∷ second ∷ []) (a ∷ b ∷ c ∷ d ∷ []) (askWork g work accepted) ⌝ }
+{
+    let answer = sheets(g, first, second, a, b, c, d);
+    if answer.number != 0 {
+        return answer;
+    }
+    if !has_room(g, work) {
+        return Answer {
+            number: 9,
+            place: 0,
+        };
+    }
+    answer
 }

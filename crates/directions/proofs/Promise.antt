@@ -12,11 +12,12 @@ use Rattle.grid.specs.declared.Grid.{Grid}
 use Rattle.grid.specs.declared.Answer.{Answer}
 use Rattle.grid.specs.Sheet.{size, isData}
 use Rattle.grid.specs.Directions.{levels, directions, firstUnlevelled}
-use Rattle.grid.specs.Checks.{refusal, accepted, askCell, askSheets, askWork, directionsCheck}
+use Rattle.grid.specs.Checks.{refusal, accepted, askSheets, askWork, directionsCheck}
 use Rattle.grid.specs.Promises.{DirectionsPromise}
 use Rattle.grid_laws.proofs.Tests.{cond-true, cond-false}
 use Rattle.grid_laws.proofs.Below.{first-≤}
-use Rattle.checks.proofs.Asked.{Passed, Refused, passed, refused, have-first, one-input}
+use Rattle.checks.proofs.Gate.{Gate, passed, answered-no, is-accepted, next-no, next-yes}
+use Rattle.checks.proofs.Asked.{Sized, check-gate, one-input}
 
 unlevelled-≤ : (g : Grid) (e : List ℤ) → firstUnlevelled g e ≤ size g
 unfolding firstUnlevelled
@@ -25,29 +26,19 @@ unlevelled-≤ g e = first-≤ (size g) (λ c. isData e c && eqb (getD (levels g
 module _ (g : Grid) (e : List ℤ) (c₀ w₀ : List ℕ) (r : Answer)
     (asked : r ≡ askSheets g (length e ∷ length e ∷ []) (length c₀ ∷ length c₀ ∷ length c₀ ∷ length c₀ ∷ [])
     (askWork g (length w₀) accepted)) where
-  -- what is asked after 9
-  later : Answer
-  later = askCell 10 g (firstUnlevelled g e) accepted
+  -- what 10 is asked after
+  before-10 : Gate (λ later. askSheets g (length e ∷ []) (length c₀ ∷ []) (askWork g (length w₀) later))
+      (Sized g (length e ∷ []) (length c₀ ∷ []) (length w₀))
+  before-10 = check-gate g (length e ∷ []) (length c₀ ∷ []) (length w₀)
 
-  call : askSheets g (length e ∷ length e ∷ []) (length c₀ ∷ length c₀ ∷ length c₀ ∷ length c₀ ∷ []) (askWork g (length w₀) later)
-      ≡ directionsCheck g e (length c₀) (length w₀)
-  unfolding directionsCheck later
-  call = one-input g (length e) (length c₀) (askWork g (length w₀) later)
-
-  no-of : (r .number ≡ 0 → ⊥) → Refused g (length e ∷ length e ∷ []) (length c₀ ∷ length c₀ ∷ length c₀ ∷ length c₀ ∷ []) (length w₀)
-  no-of n =
-      refused g (length e ∷ length e ∷ []) (length c₀ ∷ length c₀ ∷ length c₀ ∷ length c₀ ∷ []) (length w₀)
-      (λ z. n (ap (λ (a : Answer). a .number) asked ∙ z))
-
-  yes-of : r .number ≡ 0 → Passed g (length e ∷ length e ∷ []) (length c₀ ∷ length c₀ ∷ length c₀ ∷ length c₀ ∷ []) (length w₀)
-  yes-of z =
-      passed g (length e ∷ length e ∷ []) (length c₀ ∷ length c₀ ∷ length c₀ ∷ length c₀ ∷ []) (length w₀)
-      (ap (λ (a : Answer). a .number) (sym asked) ∙ z)
+  answered : r ≡ askSheets g (length e ∷ []) (length c₀ ∷ []) (askWork g (length w₀) accepted)
+  answered = asked ∙ one-input g (length e) (length c₀) (askWork g (length w₀) accepted)
 
   pub refused-promise : (r .number ≡ 0 → ⊥) → DirectionsPromise g e c₀ c₀ w₀ w₀ r
+  unfolding directionsCheck
   refused-promise n =
       record {
-        answer = asked ∙ sym (no-of n .stands later) ∙ call;
+        answer = answered-no before-10 answered n _;
         result = sym (cond-false (directions g e) c₀ (ne-eqb (r .number) 0 n));
         work = record { same-length = refl; untouched = λ l h. refl };
       }
@@ -55,47 +46,39 @@ module _ (g : Grid) (e : List ℤ) (c₀ w₀ : List ℕ) (r : Answer)
   pub accepted-sizes : r .number ≡ 0 → (size g < 2 ^ 24) × (length e ≡ size g) × (length c₀ ≡ size g) × (4 * size g ≤ length w₀)
       × (g .cols < 2 ^ 24)
   accepted-sizes z =
-      let p = yes-of z in
-      let c = p .fits .cells in
-      let k = p .fits .cols-high in (
-        omega arith,
-        have-first (size g) (length e) (length e ∷ []) (p .inputs-have),
-        have-first (size g) (length c₀) (length c₀ ∷ length c₀ ∷ length c₀ ∷ []) (p .results-have),
-        p .room,
-        omega arith,
-      )
+      let s = passed before-10 answered z .fact in
+      let c = s .fits .cells in
+      let k = s .fits .cols-high in
+      (omega arith, s .inputs-have .0, s .results-have .0, s .room, omega arith)
 
   -- 10: some data cell has no level
   module _ (z : r .number ≡ 0) (first : ℕ) (place : first ≡ firstUnlevelled g e) (c₁ w₁ : List ℕ)
       (codes : c₁ ≡ cond (eqb first (size g)) (directions g e) c₀) (same : length w₁ ≡ length w₀) where
     pub lacking-promise : first < length e → DirectionsPromise g e c₀ c₁ w₀ w₁ (refusal 10 first)
-    unfolding later
+    unfolding directionsCheck
     lacking-promise h =
         let s = accepted-sizes z .1 in
         let other : first ≡ size g → ⊥ = (λ q. omega arith) in
         record {
           answer =
               ap (refusal 10) place
-              ∙ sym (cond-false accepted (refusal 10 (firstUnlevelled g e))
-              (ne-eqb (firstUnlevelled g e) (size g) (λ q. other (place ∙ q))))
-              ∙ sym (yes-of z .then later)
-              ∙ call;
+              ∙ next-no before-10 answered z (refusal 10 (firstUnlevelled g e)) accepted
+              (ne-eqb (firstUnlevelled g e) (size g) (λ q. other (place ∙ q)));
           result = codes ∙ cond-false (directions g e) c₀ (ne-eqb first (size g) other);
           work = record { same-length = same; untouched = λ o k. let y : ⊥ = omega arith in absurd y };
         }
 
     pub accepted-promise : length e ≤ first → DirectionsPromise g e c₀ c₁ w₀ w₁ r
-    unfolding later
+    unfolding directionsCheck
     accepted-promise k =
         let s = accepted-sizes z .1 in
         let b = unlevelled-≤ g e in
         let h : first ≡ size g = omega arith in
         record {
           answer =
-              asked ∙ yes-of z .then accepted
-              ∙ sym (cond-true accepted (refusal 10 (firstUnlevelled g e)) (eq-eqb (firstUnlevelled g e) (size g) (sym place ∙ h)))
-              ∙ sym (yes-of z .then later)
-              ∙ call;
+              is-accepted before-10 answered z
+              ∙ next-yes before-10 answered z (refusal 10 (firstUnlevelled g e)) accepted
+              (eq-eqb (firstUnlevelled g e) (size g) (sym place ∙ h));
           result =
               codes
               ∙ cond-true (directions g e) c₀ (eq-eqb first (size g) h)

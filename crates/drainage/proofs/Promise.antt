@@ -1,5 +1,5 @@
 -- The promise of the one call, from the answer to questions 5 to 9 and the four lists of the inner part.
-use mathlib.Core.Path.{_≡_, refl, sym, _∙_, ap}
+use mathlib.Core.Path.{_≡_, refl, sym, _∙_}
 use mathlib.Core.Bool.{true, false}
 use mathlib.Core.List.{List, [], _∷_}
 use Prim.Native.Nat.{ℕ}
@@ -9,7 +9,6 @@ use lib.IntN.{ℤ}
 use borrow.Author.Tests.{eq-eqb, ne-eqb}
 use Rattle.grid.specs.declared.Grid.{Grid}
 use Rattle.grid.specs.declared.Answer.{Answer}
-use Rattle.grid.specs.Sheet.{size}
 use Rattle.grid.specs.Fill as F
 use Rattle.grid.specs.Directions as D
 use Rattle.grid.specs.Routes as R
@@ -17,7 +16,8 @@ use Rattle.grid.specs.Checks.{accepted, isAccepted, askSheets, askWork, drainCh
 use Rattle.grid.specs.Guarantee.{Guarantee}
 use Rattle.grid.specs.Promises.{DrainPromise}
 use Rattle.grid_laws.proofs.Tests.{T-true, true-false, cond-true, cond-false}
-use Rattle.checks.proofs.Asked.{passed, have-first, have-rest, four-results}
+use Rattle.checks.proofs.Gate.{passed}
+use Rattle.checks.proofs.Asked.{check-gate, four-results}
 use Rattle.guarantee_laws.proofs.OneCall.{guaranteed}
 use Rattle.drainage.specs.Results.{Measured, Results}
 
@@ -38,19 +38,18 @@ module _ (g : Grid) (e f k a l w : ℕ) (r : Answer) (answered : r ≡ asked g e
   is-drain-check = answered ∙ four-results g e f k a l (askWork g w accepted)
 
   pub measured : r .number ≡ 0 → Measured g e f k a l w
+  unfolding drainCheck
   measured z =
-      let p = passed g (e ∷ e ∷ []) (f ∷ k ∷ a ∷ l ∷ []) w (sym (ap (λ (x : Answer). x .number) answered) ∙ z) in
-      let n = size g in
-      let second = have-rest n f (k ∷ a ∷ l ∷ []) (p .results-have) in
-      let third = have-rest n k (a ∷ l ∷ []) second in
+      let s = passed (check-gate g (e ∷ []) (f ∷ k ∷ a ∷ l ∷ []) w) is-drain-check z .fact in
+      let h = s .results-have in
       record {
-        fits = p .fits;
-        elevations-have = have-first n e (e ∷ []) (p .inputs-have);
-        filled-has = have-first n f (k ∷ a ∷ l ∷ []) (p .results-have);
-        codes-have = have-first n k (a ∷ l ∷ []) second;
-        counts-have = have-first n a (l ∷ []) third;
-        labels-have = have-first n l [] (have-rest n a (l ∷ []) third);
-        room = p .room;
+        fits = s .fits;
+        elevations-have = s .inputs-have .0;
+        filled-has = h .0;
+        codes-have = h .1 .0;
+        counts-have = h .1 .1 .0;
+        labels-have = h .1 .1 .1 .0;
+        room = s .room;
       }
 
 module _ (g : Grid) (e f₀ : List ℤ) (k₀ a₀ l₀ w₀ : List ℕ) (r : Answer)

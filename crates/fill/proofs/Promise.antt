@@ -1,6 +1,6 @@
 -- From the answer to questions 5 to 9 to the promise of the call: e and f₀ are the elevations and the result list at entry, w₀ the work
 -- buffer.
-use mathlib.Core.Path.{_≡_, refl, sym, _∙_, ap}
+use mathlib.Core.Path.{_≡_, refl, sym, _∙_}
 use mathlib.Core.List.{List, [], _∷_}
 use Prim.Native.Nat.{ℕ, _*_, _^_, _≤_, _<_}
 use native.Mathlib.Omega.{arith}
@@ -14,7 +14,8 @@ use Rattle.grid.specs.Fill.{filled}
 use Rattle.grid.specs.Checks.{accepted, askSheets, askWork, fillCheck}
 use Rattle.grid.specs.Promises.{FillPromise}
 use Rattle.grid_laws.proofs.Tests.{cond-true, cond-false}
-use Rattle.checks.proofs.Asked.{passed, have-first, one-input}
+use Rattle.checks.proofs.Gate.{passed}
+use Rattle.checks.proofs.Asked.{check-gate, one-input}
 
 module _ (g : Grid) (e f₀ : List ℤ) (w₀ : List ℕ) (r : Answer)
     (asked : r ≡ askSheets g (length e ∷ length e ∷ []) (length f₀ ∷ length f₀ ∷ length f₀ ∷ length f₀ ∷ [])
@@ -33,17 +34,12 @@ module _ (g : Grid) (e f₀ : List ℤ) (w₀ : List ℕ) (r : Answer)
 
   pub accepted-sizes : r .number ≡ 0 → (size g < 2 ^ 24) × (g .cols < 2 ^ 24) × (length e ≡ size g) × (length f₀ ≡ size g)
       × (4 * size g ≤ length w₀)
+  unfolding fillCheck
   accepted-sizes z =
-      let p = passed g (length e ∷ length e ∷ []) (length f₀ ∷ length f₀ ∷ length f₀ ∷ length f₀ ∷ []) (length w₀)
-      (ap (λ (a : Answer). a .number) (sym asked) ∙ z) in
-      let c = p .fits .cells in
-      let k = p .fits .cols-high in (
-        omega arith,
-        omega arith,
-        have-first (size g) (length e) (length e ∷ []) (p .inputs-have),
-        have-first (size g) (length f₀) _ (p .results-have),
-        p .room,
-      )
+      let s = passed (check-gate g (length e ∷ []) (length f₀ ∷ []) (length w₀)) answer z .fact in
+      let c = s .fits .cells in
+      let k = s .fits .cols-high in
+      (omega arith, omega arith, s .inputs-have .0, s .results-have .0, s .room)
 
   pub accepted-promise : r .number ≡ 0 → (f₁ : List ℤ) (w₁ : List ℕ) → f₁ ≡ filled g e → length w₁ ≡ length w₀ →
       FillPromise g e f₀ f₁ w₀ w₁ r

@@ -185,18 +185,7 @@ pub fn pour_points(
         (now (larger .entry)) (now (larger .exit)) (now (elevation .entry)) (now (elevation .exit)) (now (cell .entry)) (now (cell .exit))
         r ⌝ }
 {
-    let given = elevations.len();
-    // No result sheet and no work buffer: 8 and 9 of `check` are asked of what 7 has passed.
-    let answer = checks::check(
-        g,
-        given,
-        labels.len(),
-        given,
-        given,
-        given,
-        given,
-        18446744073709551615,
-    );
+    let answer = checks::inputs(g, elevations.len(), labels.len());
     if answer.number != 0 {
         return Counted {
             number: answer.number,

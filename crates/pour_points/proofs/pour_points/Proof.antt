@@ -1,14 +1,12 @@
 -- At each no the columns are as at entry; after the last yes the promise is what `settle` leaves.
 use borrow.Author.Needs.{needs}
-use lib.ListN.{length}
 use Rattle.checks.proofs.Asked.{says-no, says-yes}
-use Rattle.pour_points.proofs.Promise.{promise-first, promise-lengths, promise-settled, can-scan, one-length-of, first-long}
-use Rattle.pour_points.proofs.Promise.{second-long, sizes-fit}
+use Rattle.pour_points.proofs.Promise.{promise-first, promise-lengths, promise-settled, can-scan, one-length-of, sizes}
 use Rattle.pour_points.proofs.pour_points.Statement.{statement}
 use Rattle.pour_points.proofs.pour_points.Tie as tie
 
-check-requires : tie.Need-check-requires
-check-requires c κs = search needs
+inputs-requires : tie.Need-inputs-requires
+inputs-requires c κs = search needs
 
 returns : tie.Need-returns
 returns c =
@@ -16,7 +14,7 @@ returns c =
     let g = s .args .g in
     let e = s .args .elevations .now in
     let labels = s .args .labels .now in
-    let a = c .before .before .check in
+    let a = c .before .before .inputs in
     promise-first g e labels (a .result) (a .ensures) (c .if1 .taken)
 
 one-length-requires : tie.Need-one-length-requires
@@ -28,7 +26,7 @@ returns-2 c =
     let g = s .args .g in
     let e = s .args .elevations .now in
     let labels = s .args .labels .now in
-    let a = c .before .before .before .before .check in
+    let a = c .before .before .before .before .inputs in
     promise-lengths g e labels (a .result) (a .ensures) (c .before .before .if1 .left)
     (says-no (c .before .one-length .ensures) (c .if2 .taken))
 
@@ -38,12 +36,11 @@ settle-requires c κs =
     let g = s .args .g in
     let e = s .args .elevations .now in
     let labels = s .args .labels .now in
-    let a = c .before .before .before .before .before .before .before .before .check in
-    let n = c .before .before .before .before .before .before .if1 .left in (
-      can-scan g labels (second-long g (length e) (length labels) (a .result) (a .ensures) n)
-          (sizes-fit g (length e) (length labels) (a .result) (a .ensures) n),
+    let a = c .before .before .before .before .before .before .before .before .inputs in
+    let z = sizes g e labels (a .result) (a .ensures) (c .before .before .before .before .before .before .if1 .left) in (
+      can-scan g labels (z .inputs-have .1 .0) (z .fits),
       (
-        first-long g (length e) (length labels) (a .result) (a .ensures) n,
+        z .inputs-have .0,
         one-length-of (says-yes (c .before .before .before .before .before .one-length .ensures)
             (c .before .before .before .before .if2 .left)),
       ),
@@ -69,7 +66,7 @@ returns-3 c =
     let g = s .args .g in
     let e = s .args .elevations .now in
     let labels = s .args .labels .now in
-    let a = b .before .before .check in
+    let a = b .before .before .inputs in
     promise-settled g e labels (a .result) (a .ensures) (b .if1 .left)
     (says-yes (m .before .before .before .before .before .before .one-length .ensures)
     (m .before .before .before .before .before .if2 .left)) (m .settle .ensures)
@@ -78,7 +75,7 @@ pub pour-points-spec : {M : Type 1} → statement M
 pour-points-spec =
     tie.close
     (tie.spec
-    check-requires
+    inputs-requires
     returns
     one-length-requires
     returns-2
