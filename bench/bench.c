@@ -6,7 +6,8 @@
  * Prints, for each step and for the whole, the best of RUNS (default 3) of each side in nanoseconds of processor time for a
  * cell, and their ratio, library to baseline; and fails where a result differs. Buffers are written once before any clock
  * starts. The baseline's fill needs its outlets and its counts and labels need its ways, so these count with the steps that use
- * them: outlets with the fill, ways with the counts and with the labels.
+ * them: outlets with the fill, ways with the counts and with the labels. The baseline lists no ponds: that line has the
+ * library's own fill in the baseline's place.
  */
 #define main baseline_main
 #include "baseline.c"
@@ -32,6 +33,11 @@ static void accepted(tervuola_answer a)
 enum { B_FILL, B_DIR, B_ACC, B_LAB, B_ALL, B_N };
 static const char *const names[B_N] = { "fill", "directions", "counts", "labels", "whole" };
 
+static void line(const char *name, const char *against, double a, double b, double cells)
+{
+    printf("  %-10s %-8s %7.2f  library %7.2f ns a cell  ratio %.2f\n", name, against, a * 1e6 / cells, b * 1e6 / cells, b / a);
+}
+
 static void least(double *best, double t)
 {
     if (t < *best) *best = t;
@@ -52,13 +58,16 @@ int main(int argc, char **argv)
     uint8_t *code = get(n), *byte = get(n), *way = get(n), *code2 = get(n);
     uint32_t *acc = get(4 * n), *lab = get(4 * n), *w0 = get(4 * n), *w1 = get(4 * n);
     uint32_t *acc2 = get(4 * n), *lab2 = get(4 * n), *work = get(4 * work_len);
+    uint32_t *ponds = get(4 * n), *cells = get(4 * n);
+    int16_t *level = get(2 * n);
+    uint64_t *volume = get(8 * n);
     FILE *in = fopen(argv[1], "rb");
     if (!in || fread(z, 2, n, in) != n) { perror(argv[1]); return 2; }
     fclose(in);
     make_tables(s);
     /* a small sheet is worked out many times between two readings of the clock */
     int times = n < 100000 ? (int)(2000000 / n) + 1 : 1;
-    double base[B_N], ours[B_N];
+    double base[B_N], ours[B_N], listed = 1e300;
     for (int k = 0; k < B_N; k++) base[k] = ours[k] = 1e300;
     for (int run = 0; run < runs; run++) {
         double t[7] = { 0 }, u[6] = { 0 };
@@ -110,9 +119,21 @@ int main(int argc, char **argv)
         same("a count of the one call", acc, acc2, 4 * n);
         same("a label of the one call", lab, lab2, 4 * n);
         for (int k = 0; k < B_N; k++) least(&ours[k], u[k]);
+        tervuola_counted found = { 0, 0, 0 };
+        double a = now();
+        for (int k = 0; k < times; k++)
+            found = tervuola_ponds(s.rows, s.cols, z, n, ponds, n, level, n, cells, n, volume, n, work, work_len);
+        least(&listed, now() - a);
+        if (found.number) {
+            fprintf(stderr, "bench: refused: %s\n", tervuola_text(found.number));
+            exit(1);
+        }
+        uint64_t volumes = 0, differences = 0;
+        for (uint32_t k = 0; k < found.count; k++) volumes += volume[k];
+        for (size_t c = 0; c < n; c++) differences += (uint64_t)(f[c] - z[c]);
+        same("the sum of the volumes", &volumes, &differences, sizeof volumes);
     }
-    for (int k = 0; k < B_N; k++)
-        printf("  %-10s baseline %7.2f  library %7.2f ns a cell  ratio %.2f\n", names[k],
-               base[k] * 1e6 / (double)n / times, ours[k] * 1e6 / (double)n / times, ours[k] / base[k]);
+    for (int k = 0; k < B_N; k++) line(names[k], "baseline", base[k], ours[k], (double)n * times);
+    line("ponds", "fill", ours[B_FILL], listed, (double)n * times);
     return 0;
 }

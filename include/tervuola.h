@@ -1,5 +1,5 @@
 /*
- * tervuola.h - drainage of an elevation sheet: fill, flow directions, flow accumulation counts, basins.
+ * tervuola.h - drainage of an elevation sheet: fill, flow directions, flow accumulation counts, basins, ponds.
  *
  * Every call is proved against the definitions in crates/grid/specs (docs/DEFINITIONS.md has them in words, docs/PROVED.md says
  * what is proved): for every input and every length of every buffer it gives the number, the place and every element of every
@@ -35,7 +35,7 @@
 #include <stdint.h>
 
 #define TERVUOLA_VERSION_MAJOR 0
-#define TERVUOLA_VERSION_MINOR 1
+#define TERVUOLA_VERSION_MINOR 2
 #define TERVUOLA_VERSION_PATCH 0
 
 /* The void mark, and the eight direction codes. */
@@ -70,14 +70,14 @@ enum tervuola_number {
     TERVUOLA_BAD_ROWS = 5,        /* rows not from 1 to 4,000 */
     TERVUOLA_BAD_COLS = 6,        /* columns not from 1 to 4,000 */
     TERVUOLA_BAD_INPUT = 7,       /* an input sheet has not rows * columns elements */
-    TERVUOLA_BAD_RESULT = 8,      /* a result sheet has not rows * columns elements (one read from text: has fewer), or the four
+    TERVUOLA_BAD_RESULT = 8,      /* a result sheet has not rows * columns elements (one read from text: has fewer), or the
                                      columns have unlike lengths */
     TERVUOLA_SHORT_WORK = 9,      /* the work buffer has fewer than 4 * rows * columns elements */
     TERVUOLA_NO_LEVEL = 10,       /* a data cell has no way down; place: the first such cell */
     TERVUOLA_BAD_CODE = 11,       /* a code is neither 0 nor one of the eight; place: the first such cell */
     TERVUOLA_ENDLESS = 12,        /* a route does not end; place: the first cell with such a route */
     TERVUOLA_BAD_START = 13,      /* a start where the code is 0; place: the first such cell */
-    TERVUOLA_SHORT_COLUMNS = 14   /* the columns do not hold all pairs; place: the number of pairs */
+    TERVUOLA_SHORT_COLUMNS = 14   /* the columns do not hold all pairs, or all ponds; place: their number */
 };
 
 typedef struct {
@@ -125,7 +125,7 @@ static inline const char *tervuola_text(uint32_t number)
     case TERVUOLA_BAD_CODE: return "a direction code is neither 0 nor one of the eight";
     case TERVUOLA_ENDLESS: return "a route does not end";
     case TERVUOLA_BAD_START: return "a start lies on a cell without a direction code";
-    case TERVUOLA_SHORT_COLUMNS: return "the columns do not hold all pairs";
+    case TERVUOLA_SHORT_COLUMNS: return "the columns do not hold all pairs or ponds";
     default: return "unknown number";
     }
 }
@@ -139,6 +139,24 @@ tervuola_answer tervuola_fill(uint32_t rows, uint32_t cols,
                               const int16_t *elevations, size_t elevations_len,
                               int16_t *filled, size_t filled_len,
                               uint32_t *work, size_t work_len);
+
+/*
+ * Ponds: groups of data cells, joined at sides and corners, whose filled elevation is above the input. Each cell of a pond gets the
+ * pond's number, counted from 1 by the ponds' lowest cells, and every other cell 0. The three columns have at place k - 1, for
+ * pond k, the filled elevation that all its cells share, the number of its cells, and its volume, the sum of filled minus input.
+ * Reports the number of ponds; places past it are untouched.
+ * elevations: rows * cols. ponds: rows * cols, the result. level, cells, volume: the columns, of one length; rows * cols always
+ * suffice. work: at least 4 * rows * cols. Columns of length 0 (null pointers will do) ask for the number of ponds alone: it is the
+ * place of number 14, and number 0 says that there are none.
+ * Numbers: 5 6 7 8 9 14. Promise: PondsPromise. Linear in the number of cells.
+ */
+tervuola_counted tervuola_ponds(uint32_t rows, uint32_t cols,
+                                const int16_t *elevations, size_t elevations_len,
+                                uint32_t *ponds, size_t ponds_len,
+                                int16_t *level, size_t level_len,
+                                uint32_t *cells, size_t cells_len,
+                                uint64_t *volume, size_t volume_len,
+                                uint32_t *work, size_t work_len);
 
 /*
  * The flow direction of each cell of a sheet as it is handed in (it is not filled first): 0 at a void.

@@ -1,4 +1,5 @@
-// Every call of libtervuola.a against the second program, on its sheets, on random codes and on wrong lengths.
+// Every call of libtervuola.a against the second program as it is after request 1, on its sheets, on sheets of ponds, on random codes and
+// on wrong lengths.
 //   compare ROUNDS [SEED]      sheets up to 40 by 40
 //   compare big KIND SIDE      one large sheet, by the second program's fast layer
 // A result buffer is lent with guard elements on both sides, and holds a pattern before the call; a no must leave it, and the work buffer
@@ -18,7 +19,7 @@ static u64 checks = 0;
 template <class T> struct Lent {
   V<T> all;
   size_t n;
-  static T pattern(size_t i) { return (T)(0x5A17u * (i + 1) + 3); }
+  static T pattern(size_t i) { return (T)(0x9E3779B97F4A5A17u * (i + 1) + 3); }
   explicit Lent(size_t n) : all(n + 32), n(n) {
     for (size_t i = 0; i < all.size(); i++)
       all[i] = pattern(i);
@@ -180,6 +181,74 @@ static void drain_round(const Desc &d, const V<i16> &e0, Lengths len, u64 round)
   same_list("drain", "the labels", l, want.labels, round);
   same_work("drain", a.number, work, round);
 }
+// Sheets of ponds, at any height and with voids now and then.
+enum Form { PITS, DIAGONALS, RINGS, BLOCKS, DEEPEST, FORMS };
+static V<i16> pond_sheet(gen::Rng &g, u64 form, u64 rows, u64 cols) {
+  int pits = (int)g.in(10, 90);
+  bool rising = g.chance(60);
+  i64 low = g.chance(40) ? g.in(-32767, 32700) : g.in(-9, 9), high = std::min<i64>(low + g.in(1, 60), 32767);
+  if (form == DEEPEST) {
+    pits = (int)g.in(50, 100);
+    low = -32767;
+    high = 32767;
+  }
+  V<i16> e(rows * cols);
+  for (u64 r = 0; r < rows; r++)
+    for (u64 q = 0; q < cols; q++) {
+      u64 ring = std::min(std::min(r, rows - 1 - r), std::min(q, cols - 1 - q));
+      i64 z = high;
+      switch (form) {
+      case PITS: // in level ground
+      case DEEPEST:
+        z = ring && g.chance(pits) ? low : high;
+        break;
+      case DIAGONALS: // pits that touch at corners, or are parted by one cell
+        z = ring && (r + q) % 2 == 0 && (r + 2 * q) % 3 && g.chance(pits + 10) ? g.in(low, high) : high;
+        break;
+      case RINGS: // each second one low: ponds on islands of ponds where the others rise inwards, one pond where they fall
+        z = ring % 2 ? low : std::max(low, std::min<i64>(high + (rising ? (i64)ring : -(i64)ring) - g.chance(10), 32767));
+        break;
+      case BLOCKS: // behind banks of unlike heights
+        z = r % 4 == 0 || q % 4 == 0 ? std::max(low, high - (i64)((r / 4 + q / 4) % 3)) : g.in(low, high);
+        break;
+      }
+      e[r * cols + q] = (i16)z;
+    }
+  if (g.chance(25))
+    for (auto &x : e)
+      if (g.chance(8))
+        x = VOIDMARK;
+  return e;
+}
+// the answers that ponds has given, and the most ponds of one sheet
+static std::map<u32, u64> ponds_answers;
+static u64 most_ponds = 0;
+static void ponds_round(const Desc &d, const V<i16> &e0, bool exact, gen::Rng &g, Lengths len, u64 round) {
+  V<i16> e = resized(e0, len.of(e0.size()));
+  Lent<u32> p(len.of(e0.size())), work(len.work(e0.size()));
+  V<u32> numbers;
+  size_t count = e.size() == d.n() && d.n() ? oracle::ponds(d, e, oracle::fill(d, e), numbers).size() : g.below(4);
+  size_t k = exact || g.chance(40) ? count : g.chance(40) ? count + g.below(5) : g.chance(70) ? count - (count ? 1 : 0) : g.below(count + 1);
+  Lent<i16> z(len.of(k));
+  Lent<u32> c(len.of(k));
+  Lent<u64> v(len.of(k));
+  V<u32> wp = p.list(), wc = c.list();
+  V<i16> wz = z.list();
+  V<u64> wv = v.list();
+  Reply r = call_ponds(d, e, wp, wz, wc, wv, work.n);
+  tervuola_counted x = tervuola_ponds((u32)d.rows, (u32)d.cols, e.data(), e.size(), p.at(), p.n, z.at(), z.n, c.at(), c.n, v.at(), v.n,
+                                      work.at(), work.n);
+  same_answer("ponds", x.number, x.place, r, round);
+  if (x.count != r.count)
+    fail("ponds", "the number of ponds", round);
+  same_list("ponds", "the pond numbers", p, wp, round);
+  same_list("ponds", "the levels", z, wz, round);
+  same_list("ponds", "the cells", c, wc, round);
+  same_list("ponds", "the volumes", v, wv, round);
+  same_work("ponds", x.number, work, round);
+  ponds_answers[x.number]++;
+  most_ponds = std::max<u64>(most_ponds, x.count);
+}
 static void read_round(const std::string &t, gen::Rng &g, u64 round) {
   Lent<i16> out(g.chance(70) ? 2304 : g.below(2400));
   V<i16> want = out.list();
@@ -243,12 +312,18 @@ static int rounds(u64 count, u64 seed) {
     starts_round(d, codes, g, len, i);
     pour_points_round(d, s.e, g, len, i);
     drain_round(d, s.e, len, i);
+    ponds_round(d, s.e, false, g, len, i);
+    ponds_round(d, pond_sheet(g, i % FORMS, s.rows, s.cols), false, g, len, i);
     read_round(gen::badtext(bad[i % bad.size()], g.g() % 1000000), g, i);
     if (s.rows * s.cols <= 2304)
       read_round(gen::text(s), g, i);
   }
   printf("compare: %llu rounds, %llu comparisons, all equal\n", (unsigned long long)count, (unsigned long long)checks);
-  return checks ? 0 : 1;
+  printf("compare: up to %llu ponds, and of each answer", (unsigned long long)most_ponds);
+  for (u32 number : {0, 5, 6, 7, 8, 9, 14})
+    printf("  %u: %llu", number, (unsigned long long)ponds_answers[number]);
+  printf("\n");
+  return checks && ponds_answers.size() == 7 ? 0 : 1;
 }
 
 static int big(const char *kind, u64 side) {
@@ -269,11 +344,14 @@ static int big(const char *kind, u64 side) {
   watersheds_round(d, codes, g, len, 0);
   starts_round(d, codes, g, len, 0);
   drain_round(d, s.e, len, 0);
+  ponds_round(d, s.e, true, g, len, 0);
+  ponds_round(d, pond_sheet(g, DEEPEST, side, side), true, g, len, 0);
   printf("compare: %s at %llu square, %llu comparisons, all equal\n", kind, (unsigned long long)side, (unsigned long long)checks);
   return checks ? 0 : 1;
 }
 
 int main(int argc, char **argv) {
+  LEVEL = 1;
   if (argc == 4 && !strcmp(argv[1], "big"))
     return big(argv[2], strtoull(argv[3], 0, 10));
   if (argc < 2) {

@@ -6,8 +6,8 @@ use grid::Counted;
 use grid::Dimensions;
 use grid::Grid;
 ghost use Rattle.grid.specs.Sheet.{gridOf};
-ghost use Rattle.grid.specs.Promises.{CountsPromise, DirectionsPromise, DrainPromise, FillPromise, LabelsPromise, PourPointsPromise};
-ghost use Rattle.grid.specs.Promises.{ReadPromise, StartsPromise, WatershedsPromise};
+ghost use Rattle.grid.specs.Promises.{CountsPromise, DirectionsPromise, DrainPromise, FillPromise, LabelsPromise, PondsPromise};
+ghost use Rattle.grid.specs.Promises.{PourPointsPromise, ReadPromise, StartsPromise, WatershedsPromise};
 
 // Elevations to the filled sheet.
 #[no_mangle]
@@ -26,6 +26,29 @@ pub extern "C" fn tervuola_fill(
         cols: cols as usize,
     };
     fill::fill(g, elevations, filled, work)
+}
+
+// Elevations to ponds.
+#[no_mangle]
+pub extern "C" fn tervuola_ponds(
+    rows: u32,
+    cols: u32,
+    elevations: &[i16],
+    ponds: &mut [u32],
+    level: &mut [i16],
+    cells: &mut [u32],
+    volume: &mut [u64],
+    work: &mut [u32],
+) -> Counted
+    ensures { λ r. ⌜ PondsPromise (gridOf rows cols) (now (elevations .entry)) (now (ponds .entry)) (now (ponds .exit))
+        (now (level .entry)) (now (level .exit)) (now (cells .entry)) (now (cells .exit)) (now (volume .entry)) (now (volume .exit))
+        (now (work .entry)) (now (work .exit)) r ⌝ }
+{
+    let g = Grid {
+        rows: rows as usize,
+        cols: cols as usize,
+    };
+    ponds::ponds(g, elevations, ponds, level, cells, volume, work)
 }
 
 // Any sheet to its flow directions.

@@ -1,0 +1,108 @@
+-- A cell of mark 1 is the lowest of its pond, which is joined from it; any other is passed by.
+use mathlib.Core.Path.{sym, _∙_}
+use native.Mathlib.Omega.{arith}
+use Rattle.join_laws.proofs.Search.{parts-same}
+use Rattle.ponds.proofs.Numbering.{parts, few-ponds, passed-by, taken-long, seeded, numbered-on}
+use borrow.Author.Needs.{needs}
+use Rattle.ponds.proofs.number_at.Statement.{statement}
+use Rattle.ponds.proofs.number_at.Tie as tie
+use Rattle.ponds.proofs.number_at.Reads as reads
+use Rattle.ponds.proofs.number_at.Lts as lts
+use Rattle.join.proofs.join.Reads as join-reads
+use Rattle.join.proofs.take.Reads as take-reads
+use Rattle.ponds.proofs.mark_at.Reads as mark-at-reads
+
+mul-n : tie.Need-mul-n
+mul-n c = search needs
+
+mark-at-requires : tie.Need-mark-at-requires
+mark-at-requires c κs = search needs
+
+same-length : tie.Need-same-length
+same-length c = search needs
+
+returns : tie.Need-returns
+returns c =
+    let s = c .before .before .before .before .before in
+    let a = s .args in
+    let m = c .before .mark-at .ensures in
+    passed-by (a .g) (a .elevations .now) (a .work .now) (a .half) (a .c) (a .count) (s .pre .0) (s .pre .1 .0) (s .pre .1 .1 .0)
+    (s .pre .1 .1 .1 .1) (λ e. c .if1 .taken (m ∙ e))
+
+add-take : tie.Need-add-take
+add-take c =
+    let s = c .before .before .before .before .before in
+    let a = s .args in
+    let f = s .pre .0 .few in
+    let h = few-ponds (a .g) (a .elevations .now) (a .work .now) (a .half) (a .c) (a .count) (s .pre .0) (s .pre .1 .0) (s .pre .1 .1 .0)
+    (s .pre .1 .1 .1 .1) in
+    omega arith
+
+take-requires : tie.Need-take-requires
+take-requires c κs = search needs
+
+add-join : tie.Need-add-join
+add-join c =
+    let s = c .before .before .before .before .before .before .before .before .before in
+    let a = s .args in
+    let f = s .pre .0 .few in
+    let h = few-ponds (a .g) (a .elevations .now) (a .work .now) (a .half) (a .c) (a .count) (s .pre .0) (s .pre .1 .0) (s .pre .1 .1 .0)
+    (s .pre .1 .1 .1 .1) in
+    omega arith
+
+join-requires : tie.Need-join-requires
+join-requires c κs =
+    let s = c .before .before .before .before .before .before .before .before .before .before in
+    let a = s .args in
+    let N = s .pre .1 .1 .1 .1 in
+    let t = c .before .before .before .take in
+    let m = c .before .before .before .before .before .before .mark-at .ensures in
+    let one = sym m ∙ c .before .before .before .before .before .if1 .left in
+    let w = t .last .1 .1 .1 .1 .1 .0 in
+    let P = parts (a .g) (a .elevations .now) (a .work .now) (a .half) (a .c) (a .count) (s .pre .0) (s .pre .1 .0) (s .pre .1 .1 .0) N in
+    let l = taken-long (a .g) (a .elevations .now) (a .work .now) (a .half) (a .c) (a .count) (s .pre .0) (s .pre .1 .0) (s .pre .1 .1 .0) N
+    one w (t .result) (t .ensures .1) (t .ensures .0) in
+    let q = seeded (a .g) (a .elevations .now) (a .work .now) (a .half) (a .c) (a .count) (s .pre .0) (s .pre .1 .0) (s .pre .1 .1 .0) N
+    one w (t .result) (t .ensures .1) (t .ensures .0) in
+    (parts-same P l, (omega arith, (q, s .pre .1 .1 .1 .0)))
+
+add-result : tie.Need-add-result
+add-result c =
+    let s = c .before .before .before .before .before .before .before .before .before .before .before .before .before in
+    let a = s .args in
+    let f = s .pre .0 .few in
+    let h = few-ponds (a .g) (a .elevations .now) (a .work .now) (a .half) (a .c) (a .count) (s .pre .0) (s .pre .1 .0) (s .pre .1 .1 .0)
+    (s .pre .1 .1 .1 .1) in
+    omega arith
+
+same-length-2 : tie.Need-same-length-2
+same-length-2 c = search needs
+
+returns-2 : tie.Need-returns-2
+returns-2 c =
+    let b = c .before .before .before .before in
+    let s = b .before .before .before .before .before .before .before .before .before in
+    let a = s .args in
+    let t = b .before .before .take in
+    let m = b .before .before .before .before .before .mark-at .ensures in
+    let one = sym m ∙ b .before .before .before .before .if1 .left in
+    let j = c .before .before .join in
+    numbered-on (a .g) (a .elevations .now) (a .work .now) (a .half) (a .c) (a .count) (s .pre .0) (s .pre .1 .0) (s .pre .1 .1 .0)
+    (s .pre .1 .1 .1 .1) one (t .last .1 .1 .1 .1 .1 .0) (t .result) (t .ensures .1) (t .ensures .0) (j .last .1 .1 .1 .1 .1 .1 .0)
+    (j .ensures .0) (j .ensures .1)
+
+pub number-at-spec : {M : Type 1} → statement M
+number-at-spec =
+    tie.close
+    (tie.spec
+    mul-n
+    mark-at-requires
+    same-length
+    returns
+    add-take
+    take-requires
+    add-join
+    join-requires
+    add-result
+    same-length-2
+    returns-2)
