@@ -8,8 +8,8 @@ use lib.ListN.{length}
 use lib.IntN.{ℤ, pos, negsuc}
 use lib.Dec.{T, ltb→lt, leb→le}
 use lib.Signed.{leZ, ltZ, _≤ℤ_, _<ℤ_, ≤ℤ-refl}
-use Rattle.grid.specs.Below.{In, Distinct}
-use Rattle.grid.specs.Sheet.{void, top, higher}
+use Rattle.grid.specs.Below.{In}
+use Rattle.grid.specs.Sheet.{void, top}
 use Rattle.fill_laws.specs.Filling.{peak, Falls, Filling}
 use Rattle.fill_laws.specs.Certificate.{Reached, Certificate}
 use Rattle.grid_laws.proofs.Order.{≤ℤ-trans, ≤ℤ-antisym, ≤ℤ-of-eq, ≤ℤ-or-<, ≤-higher-left, ≤-higher-right, higher-≤, higher-mono}

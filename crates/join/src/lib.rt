@@ -4,7 +4,7 @@
 // buffer". Proved by the state `Searching` of join_laws: no step changes what the search comes to.
 use grid::Grid;
 ghost use mathlib.Core.Path.{_≡_};
-ghost use Prim.Native.Nat.{ℕ, _+_, _/_, _%_, _<_, _≤_, _^_};
+ghost use Prim.Native.Nat.{_+_, _/_, _%_, _<_, _≤_, _^_};
 ghost use lib.ListN.{length, getD, set};
 ghost use Rattle.grid.specs.Sheet.{size};
 ghost use Rattle.cells.specs.Steps.{Inner, Offsets};

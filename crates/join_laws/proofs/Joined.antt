@@ -1,21 +1,21 @@
 -- What is joined is what has a way: a cell joined in pass k has a way of at most k steps, and a way that passes no cell twice has fewer
 -- steps than there are cells.
-use mathlib.Core.Path.{_≡_, refl, sym, _∙_, ap, subst}
-use mathlib.Core.Bool.{Bool, true, false, _&&_, _||_}
-use mathlib.Core.Logic.{_⊎_, inl, inr, ⊎-elim}
-use mathlib.Core.List.{List, [], _∷_}
+use mathlib.Core.Path.{_≡_, refl, sym, _∙_, ap}
+use mathlib.Core.Bool.{Bool, true, false, _&&_}
+use mathlib.Core.Logic.{inl, inr, ⊎-elim}
+use mathlib.Core.List.{List}
 use Prim.Native.Nat.{ℕ, zero, suc, _≤_, _<_}
 use native.Mathlib.Omega.{arith}
 use native.Mathlib.Decide.{decLt}
 use lib.ListN.{length, getD, List·getD-eq-default}
 use Rattle.grid.specs.declared.Grid.{Grid}
-use Rattle.grid.specs.Below.{table, anyBelow, In}
-use Rattle.grid.specs.Sheet.{size, neighbour, Touch}
+use Rattle.grid.specs.Below.{anyBelow, In}
+use Rattle.grid.specs.Sheet.{size, neighbour}
 use Rattle.grid.specs.Joined.{joinPass, joinPasses, joined}
 use Rattle.grid_laws.proofs.Tests.{true-false, and-true, and-left, and-right, or-left, or-right, or-cases}
 use Rattle.grid_laws.proofs.Below.{at-table, length-table, any-of, some-of-any}
 use Rattle.grid_laws.proofs.Few.{few}
-use Rattle.join_laws.specs.Ways.{Way, stop, step, cells, First, Beside, Joins}
+use Rattle.join_laws.specs.Ways.{stop, step, cells, First, Beside, Joins}
 use Rattle.join_laws.proofs.Ways.{once}
 
 module _ (g : Grid) (member first : ℕ → Bool) (on : (c : ℕ) → member c ≡ true → c < size g) where

@@ -1,7 +1,7 @@
 -- What the steps of a search make of its state: a cell of mark 1 beside a joined one is joined itself, which leaves what is joined in the
 -- end as it was; and where the queue is empty, no cell of mark 1 is beside a joined one, so that the marks are what the search comes to.
 use mathlib.Core.Path.{_≡_, refl, sym, _∙_, ap, subst}
-use mathlib.Core.Bool.{Bool, true, false, cond, _||_}
+use mathlib.Core.Bool.{true, false, cond, _||_}
 use mathlib.Core.Logic.{_⊎_, inl, inr, ⊎-elim}
 use mathlib.Core.List.{List}
 use Prim.Native.Nat.{ℕ, _+_, _≤_, _<_}
@@ -13,13 +13,13 @@ use lib.Seq.{getD-set-same, getD-set-other}
 use borrow.Author.Count.{below-more}
 use borrow.Author.Tests.{eqb-true, eq-eqb, ne-eqb}
 use Rattle.grid.specs.declared.Grid.{Grid}
-use Rattle.grid.specs.Below.{table, countBelow}
+use Rattle.grid.specs.Below.{countBelow}
 use Rattle.grid.specs.Sheet.{size, neighbour, Touch}
 use Rattle.grid.specs.Joined.{joined}
-use Rattle.grid_laws.proofs.Tests.{test, true-false, not-true-false, cond-true, cond-false, or-left, or-right, or-cases, same-test}
+use Rattle.grid_laws.proofs.Tests.{test, true-false, cond-true, cond-false, or-left, or-right, or-cases, same-test}
 use Rattle.grid_laws.proofs.Below.{at-table, length-table, is-table, table-ext, count-≤, count-less, count-change}
 use Rattle.grid_laws.proofs.Neighbours.{touch-back}
-use Rattle.join_laws.specs.Ways.{Way, stop, step, Joins}
+use Rattle.join_laws.specs.Ways.{stop, step, Joins}
 use Rattle.join_laws.specs.Search.{partOf, Parts, inSet, isJoined, joinedMarks, Searching, Spreading, GoesOn, Touched}
 use Rattle.join_laws.proofs.Joined.{joined-way, way-joined}
 

@@ -11,22 +11,22 @@ use borrow.Author.Tests.{leb-true, le-leb, lt-leb, eqb-true, ne-eqb}
 use Rattle.grid.specs.declared.Grid.{Grid}
 use Rattle.grid.specs.declared.Answer.{Answer}
 use Rattle.grid.specs.declared.Counted.{Counted}
-use Rattle.grid.specs.Below.{sumBelow}
 use Rattle.grid.specs.Sheet.{size, at}
 use Rattle.grid.specs.Fill.{filled}
 use Rattle.grid.specs.Ponds as P
 use Rattle.grid.specs.Checks.{refusal, accepted, ask, isAccepted, ofCounted, allHave, askSheets, askWork, pondsCheck}
 use Rattle.grid.specs.Promises.{PondsPromise}
-use Rattle.grid_laws.proofs.Tests.{T-true, true-false, cond-true, cond-false}
-use Rattle.grid_laws.proofs.Cells.{InRange}
-use Rattle.checks.proofs.Gate.{Gate, one, both, passed, answered-no, answered-yes, next-no}
-use Rattle.checks.proofs.Asked.{Sheets, sheets-gate, work-gate, one-input, all-are}
+use Rattle.grid_laws.proofs.Tests.{T-true, cond-true, cond-false}
+use Rattle.checks.proofs.Gate.{Gate, passed, answered-no, answered-yes, next-no}
+use Rattle.checks.proofs.Asked.{Sheets, sheets-gate, one-input, all-are}
 use Rattle.pond_laws.specs.Gathered.{Gathered}
 use Rattle.pond_laws.proofs.Depth.{difference}
 use Rattle.pond_laws.proofs.Total.{no-wrap}
 use Rattle.pond_laws.proofs.Columns.{level-column, cells-column, volume-column, one-level, total-column}
-use Rattle.ponds.specs.State.{Sizes, Numbered, OneLength, Settled}
-use Rattle.ponds.proofs.Gathering.{count-is}
+use Rattle.pond_numbers.specs.State.{Sizes, Numbered}
+use Rattle.pond_columns.specs.State.{OneLength}
+use Rattle.ponds.specs.State.{Settled}
+use Rattle.pond_columns.proofs.Gathering.{count-is}
 
 -- ---- question 14
 

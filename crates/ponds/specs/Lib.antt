@@ -1,3 +1,3 @@
--- What the contracts of the ponds speak of.
---   State   the work buffer and the columns while ponds are listed
+-- What the contracts speak of.
+--   State   question 14 and the results
 pub mod State

@@ -7,11 +7,6 @@ use Rattle.fill.proofs.Words.{loaded-keys, loaded-sheet, words-of, unlo
 use borrow.Author.Needs.{needs}
 use Rattle.fill.proofs.fill_into.Statement.{statement}
 use Rattle.fill.proofs.fill_into.Tie as tie
-use Rattle.fill.proofs.fill_into.Reads as reads
-use Rattle.fill.proofs.fill_into.Lts as lts
-use Rattle.fill.proofs.fill_words.Reads as fill-words-reads
-use Rattle.fill.proofs.load.Reads as load-reads
-use Rattle.fill.proofs.unload.Reads as unload-reads
 
 mul-n : tie.Need-mul-n
 mul-n c = search needs

@@ -4,10 +4,6 @@ use Rattle.fill.proofs.Steps.{front-sorted, none-reached, flooded-words
 use borrow.Author.Needs.{needs}
 use Rattle.fill.proofs.fill_words.Statement.{statement}
 use Rattle.fill.proofs.fill_words.Tie as tie
-use Rattle.fill.proofs.fill_words.Reads as reads
-use Rattle.fill.proofs.fill_words.Lts as lts
-use Rattle.flood.proofs.flood.Reads as flood-reads
-use Rattle.key_sort.proofs.sort.Reads as sort-reads
 
 mul-n : tie.Need-mul-n
 mul-n c = search needs

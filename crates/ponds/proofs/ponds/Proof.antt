@@ -6,12 +6,6 @@ use Rattle.ponds.proofs.Promise.{one-length}
 use borrow.Author.Needs.{needs}
 use Rattle.ponds.proofs.ponds.Statement.{statement}
 use Rattle.ponds.proofs.ponds.Tie as tie
-use Rattle.ponds.proofs.ponds.Reads as reads
-use Rattle.ponds.proofs.ponds.Lts as lts
-use Rattle.checks.proofs.both_have.Reads as both-have-reads
-use Rattle.checks.proofs.has_room.Reads as has-room-reads
-use Rattle.checks.proofs.sheets.Reads as sheets-reads
-use Rattle.ponds.proofs.settle.Reads as settle-reads
 
 sheets-requires : tie.Need-sheets-requires
 sheets-requires c κs = search needs

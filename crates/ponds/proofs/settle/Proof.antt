@@ -1,14 +1,10 @@
 -- The ponds are found, and listed where there is room.
 use native.Mathlib.Omega.{arith}
-use Rattle.ponds.proofs.Numbering.{sizes-same}
+use Rattle.pond_numbers.proofs.Numbering.{sizes-same}
 use Rattle.ponds.proofs.Promise.{settled-no, settled-yes}
 use borrow.Author.Needs.{needs}
 use Rattle.ponds.proofs.settle.Statement.{statement}
 use Rattle.ponds.proofs.settle.Tie as tie
-use Rattle.ponds.proofs.settle.Reads as reads
-use Rattle.ponds.proofs.settle.Lts as lts
-use Rattle.ponds.proofs.find.Reads as find-reads
-use Rattle.ponds.proofs.list.Reads as list-reads
 
 find-requires : tie.Need-find-requires
 find-requires c κs = search needs

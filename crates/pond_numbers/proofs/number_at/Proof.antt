@@ -2,15 +2,10 @@
 use mathlib.Core.Path.{sym, _∙_}
 use native.Mathlib.Omega.{arith}
 use Rattle.join_laws.proofs.Search.{parts-same}
-use Rattle.ponds.proofs.Numbering.{parts, few-ponds, passed-by, taken-long, seeded, numbered-on}
+use Rattle.pond_numbers.proofs.Numbering.{parts, few-ponds, passed-by, taken-long, seeded, numbered-on}
 use borrow.Author.Needs.{needs}
-use Rattle.ponds.proofs.number_at.Statement.{statement}
-use Rattle.ponds.proofs.number_at.Tie as tie
-use Rattle.ponds.proofs.number_at.Reads as reads
-use Rattle.ponds.proofs.number_at.Lts as lts
-use Rattle.join.proofs.join.Reads as join-reads
-use Rattle.join.proofs.take.Reads as take-reads
-use Rattle.ponds.proofs.mark_at.Reads as mark-at-reads
+use Rattle.pond_numbers.proofs.number_at.Statement.{statement}
+use Rattle.pond_numbers.proofs.number_at.Tie as tie
 
 mul-n : tie.Need-mul-n
 mul-n c = search needs

@@ -4,14 +4,10 @@ use mathlib.Core.Path.{_≡_, refl, sym, _∙_, ap}
 use Prim.Native.Nat.{ℕ, _-_, _/_, _≤_}
 use lib.ListN.{length}
 use Rattle.grid.specs.Sheet.{size}
-use Rattle.ponds.specs.State.{Numbered}
-use Rattle.ponds.proofs.Numbering.{sizes-same}
-use Rattle.ponds.proofs.number.Statement.{statement}
-use Rattle.ponds.proofs.number.Tie as tie
-use Rattle.ponds.proofs.number.Reads as reads
-use Rattle.ponds.proofs.number.Lts as lts
-use Rattle.cells.proofs.offsets.Reads as offsets-reads
-use Rattle.ponds.proofs.number_at.Reads as number-at-reads
+use Rattle.pond_numbers.specs.State.{Numbered}
+use Rattle.pond_numbers.proofs.Numbering.{sizes-same}
+use Rattle.pond_numbers.proofs.number.Statement.{statement}
+use Rattle.pond_numbers.proofs.number.Tie as tie
 
 abbrev Inv-loop : tie.InvT-loop
 Inv-loop g elevations work₀ n half offsets count₀ c₀ work count c = (c ≤ size g) × (length work ≡ length work₀) × Numbered g elevations work c count

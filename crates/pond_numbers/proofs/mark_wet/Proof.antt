@@ -4,9 +4,9 @@ use Prim.Native.Nat.{_-_, _≤_}
 use mathlib.Core.Path.{_≡_, refl, _∙_}
 use lib.ListN.{length, length-set}
 use Rattle.grid.specs.Sheet.{size}
-use Rattle.ponds.proofs.Numbering.{MarkedTo, mark-more, marked-all}
-use Rattle.ponds.proofs.mark_wet.Statement.{statement}
-use Rattle.ponds.proofs.mark_wet.Tie as tie
+use Rattle.pond_numbers.proofs.Numbering.{MarkedTo, mark-more, marked-all}
+use Rattle.pond_numbers.proofs.mark_wet.Statement.{statement}
+use Rattle.pond_numbers.proofs.mark_wet.Tie as tie
 
 abbrev Inv-loop : tie.InvT-loop
 Inv-loop elevations work₀ n c₀ work c = (c ≤ n) × (length work ≡ length work₀) × MarkedTo n work₀ work c

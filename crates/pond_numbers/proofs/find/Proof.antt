@@ -2,16 +2,10 @@
 use mathlib.Core.Path.{_∙_}
 use native.Mathlib.Omega.{arith}
 use Rattle.fill.proofs.Words.{loaded-keys, loaded-sheet, words-of}
-use Rattle.ponds.proofs.Numbering.{sizes-same}
+use Rattle.pond_numbers.proofs.Numbering.{sizes-same}
 use borrow.Author.Needs.{needs}
-use Rattle.ponds.proofs.find.Statement.{statement}
-use Rattle.ponds.proofs.find.Tie as tie
-use Rattle.ponds.proofs.find.Reads as reads
-use Rattle.ponds.proofs.find.Lts as lts
-use Rattle.fill.proofs.fill_words.Reads as fill-words-reads
-use Rattle.fill.proofs.load.Reads as load-reads
-use Rattle.ponds.proofs.mark_wet.Reads as mark-wet-reads
-use Rattle.ponds.proofs.number.Reads as number-reads
+use Rattle.pond_numbers.proofs.find.Statement.{statement}
+use Rattle.pond_numbers.proofs.find.Tie as tie
 
 load-requires : tie.Need-load-requires
 load-requires c κs = search needs

@@ -1,13 +1,9 @@
 -- Clear, then gather: what is gathered into cleared columns is gathered into those at entry.
 use Rattle.grid.specs.Sheet.{size}
-use Rattle.ponds.proofs.Gathering.{count-is, one-cleared, gathered-from}
+use Rattle.pond_columns.proofs.Gathering.{count-is, one-cleared, gathered-from}
 use borrow.Author.Needs.{needs}
-use Rattle.ponds.proofs.list.Statement.{statement}
-use Rattle.ponds.proofs.list.Tie as tie
-use Rattle.ponds.proofs.list.Reads as reads
-use Rattle.ponds.proofs.list.Lts as lts
-use Rattle.ponds.proofs.clear.Reads as clear-reads
-use Rattle.ponds.proofs.gather.Reads as gather-reads
+use Rattle.pond_columns.proofs.list.Statement.{statement}
+use Rattle.pond_columns.proofs.list.Tie as tie
 
 clear-requires : tie.Need-clear-requires
 clear-requires c κs = search needs

@@ -1,20 +1,15 @@
 -- The first c cells have their numbers and are gathered into the columns.
 use native.Mathlib.Omega.{arith}
-use mathlib.Core.Path.{_≡_, refl, sym, _∙_}
+use mathlib.Core.Path.{_≡_, refl, _∙_}
 use Prim.Native.Nat.{_-_, _≤_}
 use lib.ListN.{length, length-set}
 use Rattle.grid.specs.Sheet.{size}
 use Rattle.grid.specs.Fill.{filled}
 use Rattle.grid.specs.Ponds.{ponds as ponds', pondCount}
 use Rattle.pond_laws.specs.Gathered.{Gathered}
-use Rattle.ponds.proofs.Gathering.{WrittenTo, write-more, written-all, gather-first, number-is, fits, added}
-use Rattle.ponds.proofs.gather.Statement.{statement}
-use Rattle.ponds.proofs.gather.Tie as tie
-use Rattle.ponds.proofs.gather.Reads as reads
-use Rattle.ponds.proofs.gather.Lts as lts
-use Rattle.ponds.proofs.add.Reads as add-reads
-use Rattle.ponds.proofs.mark_at.Reads as mark-at-reads
-use Rattle.ponds.proofs.pond_number.Reads as pond-number-reads
+use Rattle.pond_columns.proofs.Gathering.{WrittenTo, write-more, written-all, gather-first, number-is, fits, added}
+use Rattle.pond_columns.proofs.gather.Statement.{statement}
+use Rattle.pond_columns.proofs.gather.Tie as tie
 
 abbrev Inv-loop : tie.InvT-loop
 Inv-loop g elevations count work ponds₀ level₀ cells₀ volume₀ n c₀ ponds level cells volume c =

@@ -2,12 +2,10 @@
 use native.Mathlib.Omega.{arith}
 use mathlib.Core.Path.{_≡_}
 use Prim.Native.Nat.{_-_, _≤_}
-use Rattle.ponds.specs.State.{Cleared}
-use Rattle.ponds.proofs.Gathering.{cleared-none, cleared-more}
-use Rattle.ponds.proofs.clear.Statement.{statement}
-use Rattle.ponds.proofs.clear.Tie as tie
-use Rattle.ponds.proofs.clear.Reads as reads
-use Rattle.ponds.proofs.clear.Lts as lts
+use Rattle.pond_columns.specs.State.{Cleared}
+use Rattle.pond_columns.proofs.Gathering.{cleared-none, cleared-more}
+use Rattle.pond_columns.proofs.clear.Statement.{statement}
+use Rattle.pond_columns.proofs.clear.Tie as tie
 
 abbrev Inv-loop : tie.InvT-loop
 Inv-loop count cells₀ volume₀ k₀ cells volume k = (k ≤ count) × Cleared k cells₀ cells × Cleared k volume₀ volume

@@ -4,8 +4,8 @@ use Prim.Native.Nat.{_/_, _%_}
 use borrow.Author.Tests.{lt-ltb, le-ltb}
 use native.Mathlib.Omega.{arith}
 use Rattle.grid_laws.proofs.Tests.{cond-true, cond-false}
-use Rattle.ponds.proofs.wet_mark.Statement.{statement}
-use Rattle.ponds.proofs.wet_mark.Tie as tie
+use Rattle.pond_numbers.proofs.wet_mark.Statement.{statement}
+use Rattle.pond_numbers.proofs.wet_mark.Tie as tie
 
 returns : tie.Need-returns
 returns c = sym (cond-true 1 0 (lt-ltb _ _ (c .if1 .taken)))

@@ -1,9 +1,8 @@
 -- The marks of the wet cells are those before the scan; at each cell of it the marks go on as pond_laws says.
 use mathlib.Core.Path.{_≡_, sym, _∙_, ap, ap₂, subst}
 use mathlib.Core.Bool.{Bool, cond}
-use mathlib.Core.Logic.{_⊎_}
 use mathlib.Core.List.{List}
-use Prim.Native.Nat.{ℕ, _+_, _*_, _/_, _%_, _≤_, _<_, _^_}
+use Prim.Native.Nat.{ℕ, _+_, _/_, _%_, _≤_, _<_}
 use native.Mathlib.Omega.{arith}
 use native.Mathlib.Decide.{ℕ-discrete}
 use lib.Dec.{ltb}
@@ -20,11 +19,11 @@ use Rattle.grid_laws.proofs.Cells.{InRange}
 use Rattle.fill.specs.Words.{Words}
 use Rattle.fill.proofs.Words.{words-key, words-filled}
 use Rattle.join_laws.specs.Search.{partOf, Parts, joinedMarks, Searching, GoesOn}
-use Rattle.join_laws.proofs.Search.{at-part, length-part, take-marks, take-queue, take-kept, parts-same}
+use Rattle.join_laws.proofs.Search.{at-part, length-part, take-marks, take-queue, take-kept}
 use Rattle.pond_laws.specs.Numbered.{marksTo, pondsTo}
 use Rattle.pond_laws.proofs.Numbered.{first-marks, ponds-none, ponds-≤, next-by, next-pond, pond-seeded}
 use Rattle.pond_laws.proofs.Depth.{wet-by-keys}
-use Rattle.ponds.specs.State.{Sizes, Numbered}
+use Rattle.pond_numbers.specs.State.{Sizes, Numbered}
 
 -- ---- the wet cells
 

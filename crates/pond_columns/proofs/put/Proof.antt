@@ -5,11 +5,8 @@ use borrow.Author.Needs.{sfits-of}
 use lib.ListN.{set}
 use lib.IntN.{ℤ}
 use borrow.Author.Needs.{needs}
-use Rattle.ponds.proofs.put.Statement.{statement}
-use Rattle.ponds.proofs.put.Tie as tie
-use Rattle.ponds.proofs.put.Reads as reads
-use Rattle.ponds.proofs.put.Lts as lts
-use Rattle.cells.proofs.elevation.Reads as elevation-reads
+use Rattle.pond_columns.proofs.put.Statement.{statement}
+use Rattle.pond_columns.proofs.put.Tie as tie
 
 elevation-requires : tie.Need-elevation-requires
 elevation-requires c κs = search needs

@@ -3,11 +3,8 @@ use mathlib.Core.Logic.{inl, inr}
 use mathlib.Core.Path.{refl}
 use native.Mathlib.Omega.{arith}
 use borrow.Author.Needs.{needs}
-use Rattle.ponds.proofs.add.Statement.{statement}
-use Rattle.ponds.proofs.add.Tie as tie
-use Rattle.ponds.proofs.add.Reads as reads
-use Rattle.ponds.proofs.add.Lts as lts
-use Rattle.ponds.proofs.put.Reads as put-reads
+use Rattle.pond_columns.proofs.add.Statement.{statement}
+use Rattle.pond_columns.proofs.add.Tie as tie
 
 returns : tie.Need-returns
 returns c =

@@ -1,26 +1,26 @@
 -- The columns are cleared, and each cell is added to the place of its pond: by its mark and its word the columns go on as pond_laws says.
 use mathlib.Core.Path.{_≡_, refl, sym, _∙_, ap, ap₂}
-use mathlib.Core.Logic.{_⊎_, inl, inr, ⊎-elim}
+use mathlib.Core.Logic.{inl, inr, ⊎-elim}
 use mathlib.Core.List.{List}
-use Prim.Native.Nat.{ℕ, _+_, _-_, _*_, _/_, _%_, _≤_, _<_, _^_}
+use Prim.Native.Nat.{ℕ, _+_, _-_, _/_, _%_, _≤_, _<_}
 use native.Mathlib.Omega.{arith}
 use native.Mathlib.Decide.{ℕ-discrete}
 use lib.ListN.{length, getD, set, length-set}
 use lib.Seq.{getD-set-same, getD-set-other, ext-getD}
-use lib.IntN.{ℤ, pos}
+use lib.IntN.{ℤ}
 use Rattle.grid.specs.declared.Grid.{Grid}
-use Rattle.grid.specs.Sheet.{size, at}
+use Rattle.grid.specs.Sheet.{size}
 use Rattle.grid.specs.Fill.{filled}
 use Rattle.grid.specs.Ponds.{ponds, pondCount, depth}
 use Rattle.fill.proofs.Words.{words-key, words-filled, words-level}
 use Rattle.join_laws.proofs.Search.{at-part}
-use Rattle.cells.specs.Keys.{levelOf}
 use Rattle.pond_laws.specs.Numbered.{marksTo}
 use Rattle.pond_laws.specs.Gathered.{Column, Gathered}
 use Rattle.pond_laws.proofs.Numbered.{ponds-all, length-ponds, last-marks, last-kinds, last-≤}
 use Rattle.pond_laws.proofs.Depth.{key-≤-filled, depth-by-keys}
 use Rattle.pond_laws.proofs.Gathered.{column-same, gather-none, gather-dry, gather-wet, cells-bound, volume-bound}
-use Rattle.ponds.specs.State.{Sizes, Numbered, Cleared, Put, Added, Fits, OneLength}
+use Rattle.pond_numbers.specs.State.{Sizes, Numbered}
+use Rattle.pond_columns.specs.State.{Cleared, Added, Fits, OneLength}
 
 -- ---- clearing
 
