@@ -141,10 +141,10 @@ tervuola_answer tervuola_fill(uint32_t rows, uint32_t cols,
                               uint32_t *work, size_t work_len);
 
 /*
- * Ponds: groups of data cells, joined at sides and corners, whose filled elevation is above the input. Each cell of a pond gets the
- * pond's number, counted from 1 by the ponds' lowest cells, and every other cell 0. The three columns have at place k - 1, for
- * pond k, the filled elevation that all its cells share, the number of its cells, and its volume, the sum of filled minus input.
- * Reports the number of ponds; places past it are untouched.
+ * Ponds: groups, each as large as can be, of data cells joined at sides and corners whose filled elevation is above the input. Each
+ * cell of a pond gets the pond's number, counted from 1 by the ponds' lowest cells, and every other cell 0. The three columns have
+ * at place k - 1, for pond k, the filled elevation that all its cells share, the number of its cells, and its volume, the sum of
+ * filled minus input. Reports the number of ponds; places past it are untouched.
  * elevations: rows * cols. ponds: rows * cols, the result. level, cells, volume: the columns, of one length; rows * cols always
  * suffice. work: at least 4 * rows * cols. Columns of length 0 (null pointers will do) ask for the number of ponds alone: it is the
  * place of number 14, and number 0 says that there are none.

@@ -2,7 +2,7 @@
 // keys into the work buffer, their cells sorted by key, flooded through that order, and the levels written as elevations. Proved by the
 // certificate of fill_laws: what the flood leaves is an outlet's own elevation, no cell above both its own and a neighbour's level, and
 // the place in the queue bounds the passes that a cell needs. The questions 5 to 9 come first; only the work buffer is written before the
-// last loop.
+// last loop. `load`, `fill_words` and `unload` are steps of their own: other calls fill a sheet that the keys in the work buffer spell.
 use grid::Answer;
 use grid::Grid;
 ghost use mathlib.Core.Path.{_≡_};

@@ -15,7 +15,7 @@ use Rattle.fill_laws.specs.Certificate.{Reached, Certificate}
 use Rattle.grid_laws.proofs.Order.{≤ℤ-trans, ≤ℤ-antisym, ≤ℤ-of-eq, ≤ℤ-or-<, ≤-higher-left, ≤-higher-right, higher-≤, higher-mono}
 use Rattle.grid_laws.proofs.Few.{few}
 use Rattle.join_laws.specs.Ways.{Way, stop, step, cells}
-use Rattle.join_laws.proofs.Ways.{once}
+use Rattle.join_laws.proofs.Ways.{some-cell, once}
 
 -- the elevation above the void
 height : ℤ → ℕ
@@ -121,11 +121,7 @@ module _ {size : ℕ} {Cell Out : ℕ → Type 0} {Next : ℕ → ℕ → Type 0
   within : (k : ℕ) {c : ℕ} (w : Way Out Next c) → length (cells w) ≤ suc k → F k c ≤ℤ peak e w
   unfolding peak cells
   within k (stop {c = c} o) h = outlet-≤ k c o
-  within zero (step b w) h = let z : ⊥ = some w (omega arith) in absurd z
-    where
-      some : {c : ℕ} (w : Way Out Next c) → length (cells w) ≤ 0 → ⊥
-      some (stop o) h = omega arith
-      some (step b w) h = omega arith
+  within zero (step b w) h = absurd (some-cell w (omega arith))
   within (suc k) (step {c = c} {n = n} b w) h = ≤ℤ-trans (L .by-next k c n b) (higher-mono (≤ℤ-refl (e c)) (within k w (omega arith)))
 
   -- a way's peak is the highest of its cells

@@ -1,4 +1,4 @@
--- Ways to an outlet, and what passes do, with no geometry: `Cell c` says that c is a data cell, `Out c` that c is an outlet,
+-- Peaks of ways to an outlet, and what passes do, with no geometry: `Cell c` says that c is a data cell, `Out c` that c is an outlet,
 -- `Next c n` that n is a data neighbour of the data cell c; `e` is the input.
 use mathlib.Core.Path.{_≡_}
 use mathlib.Core.Logic.{_⊎_}

@@ -1,4 +1,4 @@
--- "List the ponds": standing water, between the input e and the filled sheet f.
+-- "list the ponds": standing water, between the input e and the filled sheet f.
 use mathlib.Core.Bool.{Bool, false, cond, _&&_}
 use mathlib.Core.List.{List}
 use Prim.Native.Nat.{ℕ, _+_}

@@ -16,7 +16,12 @@ use Rattle.grid_laws.proofs.Tests.{true-false, and-true, and-left, and-right, o
 use Rattle.grid_laws.proofs.Below.{at-table, length-table, any-of, some-of-any}
 use Rattle.grid_laws.proofs.Few.{few}
 use Rattle.join_laws.specs.Ways.{stop, step, cells, First, Beside, Joins}
-use Rattle.join_laws.proofs.Ways.{once}
+use Rattle.join_laws.proofs.Ways.{some-cell, once}
+
+-- a way through a set begins in it
+pub way-member : (g : Grid) (member first : ℕ → Bool) {c : ℕ} → Joins g member first c → member c ≡ true
+way-member g member first (stop o) = o .0
+way-member g member first (step b w) = b .0
 
 module _ (g : Grid) (member first : ℕ → Bool) (on : (c : ℕ) → member c ≡ true → c < size g) where
   length-passes : (k : ℕ) → length (joinPasses g member first k) ≡ size g
@@ -46,17 +51,9 @@ module _ (g : Grid) (member first : ℕ → Bool) (on : (c : ℕ) → member c �
       let s = some-of-any 8 (λ p. getD l (neighbour g c p) false)
       (and-right (member c) (anyBelow 8 (λ p. getD l (neighbour g c p) false)) q) in
       let w = pass-way k (neighbour g c (s .0)) (s .2) in
-      step (m, first-member w, (s .0, s .1, refl)) w)
+      step (m, way-member g member first w, (s .0, s .1, refl)) w)
       (or-cases (getD l c false) (member c && anyBelow 8 (λ p. getD l (neighbour g c p) false))
       (sym (at-table (size g) (joinPass g member first l) c false h) ∙ t))
-    where
-      first-member : {x : ℕ} → Joins g member first x → member x ≡ true
-      first-member (stop o) = o .0
-      first-member (step b w) = b .0
-
-  way-member : {x : ℕ} → Joins g member first x → member x ≡ true
-  way-member (stop o) = o .0
-  way-member (step b w) = b .0
 
   way-on : {c : ℕ} (w : Joins g member first c) (x : ℕ) → In x (cells w) → x < size g
   unfolding cells
@@ -69,14 +66,11 @@ module _ (g : Grid) (member first : ℕ → Bool) (on : (c : ℕ) → member c �
   way-pass : (k : ℕ) {c : ℕ} (w : Joins g member first c) → length (cells w) ≤ suc k → getD (joinPasses g member first k) c false ≡ true
   unfolding joinPasses joinPass cells
   way-pass zero (stop {c = c} o) h = at-table (size g) (λ x. member x && first x) c false (on c (o .0)) ∙ and-true (o .0) (o .1)
-  way-pass zero (step b w) h = let z : ⊥ = some w (omega arith) in absurd z
-    where
-      some : {x : ℕ} (v : Joins g member first x) → length (cells v) ≤ 0 → ⊥
-      some (stop o) h = omega arith
-      some (step b w) h = omega arith
+  way-pass zero (step b w) h = absurd (some-cell w (omega arith))
   way-pass (suc k) (stop {c = c} o) h =
       at-table (size g) (joinPass g member first (joinPasses g member first k)) c false (on c (o .0))
-      ∙ or-left (member c && anyBelow 8 (λ p. getD (joinPasses g member first k) (neighbour g c p) false)) (way-pass k (stop o) (omega arith))
+      ∙ or-left (member c && anyBelow 8 (λ p. getD (joinPasses g member first k) (neighbour g c p) false))
+      (way-pass k (stop o) (omega arith))
   way-pass (suc k) (step {c = c} {n = n} b w) h =
       let l : List Bool = joinPasses g member first k in
       at-table (size g) (joinPass g member first l) c false (on c (b .0))

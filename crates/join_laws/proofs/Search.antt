@@ -47,7 +47,8 @@ module _ (n start : ℕ) (w : List ℕ) where
     where
       go : (j : ℕ) → j < n → Dec (j ≡ i) → getD (set (partOf n start w) i v) j 0 ≡ getD (set w (start + i) v) (start + j) 0
       go j k (yes e) =
-          rw e (getD-set-same (partOf n start w) i v 0 (let q = length-part n start w in omega arith) ∙ sym (getD-set-same w (start + i) v 0 l))
+          rw e (getD-set-same (partOf n start w) i v 0 (let q = length-part n start w in omega arith)
+          ∙ sym (getD-set-same w (start + i) v 0 l))
       go j k (no f) =
           getD-set-other (partOf n start w) i j v 0 f
           ∙ at-part n start w j k
@@ -107,10 +108,12 @@ module _ (g : Grid) (value : ℕ) (big : 2 ≤ value) (l : List ℕ) where
             let e = List·getD-eq-default l 0 (let q : length l ≤ c = omega arith in q) in
             ⊎-elim (λ q. let z : ⊥ = omega arith in absurd z) (λ q. let z : ⊥ = omega arith in absurd z) (of-set c t)
 
-    pub ends-way : (c : ℕ) → getD (joined g (inSet value l) (isJoined value l)) c false ≡ true → Joins g (inSet value l) (isJoined value l) c
+    pub ends-way : (c : ℕ) → getD (joined g (inSet value l) (isJoined value l)) c false ≡ true →
+        Joins g (inSet value l) (isJoined value l) c
     ends-way c t = joined-way g (inSet value l) (isJoined value l) on-sheet c t
 
-    pub way-ends : {c : ℕ} → Joins g (inSet value l) (isJoined value l) c → getD (joined g (inSet value l) (isJoined value l)) c false ≡ true
+    pub way-ends : {c : ℕ} → Joins g (inSet value l) (isJoined value l) c →
+        getD (joined g (inSet value l) (isJoined value l)) c false ≡ true
     way-ends w = way-joined g (inSet value l) (isJoined value l) on-sheet w
 
 -- ---- the end: the queue is empty
@@ -175,7 +178,8 @@ module _ (g : Grid) (value : ℕ) (big : 2 ≤ value) (l : List ℕ) (long : len
 
       m-way : Joins g (inSet value l) (isJoined value l) m
       m-way =
-          step (one-set g value big l m one, value-set g value big l x is, t) (stop (value-set g value big l x is, value-joined g value big l x is))
+          step (one-set g value big l m one, value-set g value big l x is, t)
+          (stop (value-set g value big l x is, value-joined g value big l x is))
 
       no-more : {c : ℕ} → Joins g (inSet value l') (isJoined value l') c → Joins g (inSet value l) (isJoined value l) c
       no-more (stop {c = c} o) = go (ℕ-discrete c m)
@@ -186,7 +190,8 @@ module _ (g : Grid) (value : ℕ) (big : 2 ≤ value) (l : List ℕ) (long : len
               stop (sym (same-set c) ∙ o .0, value-joined g value big l c (sym (at-other c f) ∙ of-joined g value big l' c (o .1)))
       no-more (step {c = c} {n = n} b w) = step (sym (same-set c) ∙ b .0, sym (same-set n) ∙ b .1, b .2) (no-more w)
 
-      same-ends : (c : ℕ) → getD (joined g (inSet value l') (isJoined value l')) c false ≡ getD (joined g (inSet value l) (isJoined value l)) c false
+      same-ends : (c : ℕ) → getD (joined g (inSet value l') (isJoined value l')) c false
+          ≡ getD (joined g (inSet value l) (isJoined value l)) c false
       same-ends c =
           same-test _ _ (λ a. way-ends g value big l long (no-more (ends-way g value big l' long' c a)))
           (λ a. way-ends g value big l' long' (more-ways (ends-way g value big l long c a)))
@@ -298,14 +303,16 @@ module _ (g : Grid) (base half value : ℕ) where
     module _ (head len : ℕ) where
       pub queue-room : Searching g value marks queue head len → (m : ℕ) → m < size g → getD w (base + m) 0 ≡ 1 → len < size g
       queue-room S m on e =
-          room g value big marks (length-part (size g) base w) m on (at-part (size g) base w m on ∙ e) queue (length-part (size g) half w) head len
+          room g value big marks (length-part (size g) base w) m on (at-part (size g) base w m on ∙ e) queue
+          (length-part (size g) half w) head len
           S
 
       pub queue-cell : Searching g value marks queue head len → head < len → (head < size g) × (getD w (half + head) 0 < size g)
       queue-cell S h = let k : head < size g = (let c = S .count in omega (arith, count-≤ (size g) (isJoined value marks))) in
           (k, rw (at-part (size g) half w head k) at (S .queued head h .0))
 
-      pub spread-none : Searching g value marks queue head len → head < len → Spreading g value marks queue head len (getD w (half + head) 0) 0
+      pub spread-none : Searching g value marks queue head len → head < len →
+          Spreading g value marks queue head len (getD w (half + head) 0) 0
       spread-none S h =
           record {
             searching = S;
@@ -320,7 +327,8 @@ module _ (g : Grid) (base half value : ℕ) where
             queued = S .searching .queued;
             placed = S .searching .placed;
             spread =
-                λ i p h k. below-more (λ j. getD marks (neighbour g (getD queue j 0) p) 0 ≡ 1 → ⊥) head (λ j l. S .searching .spread j p l k)
+                λ i p h k. below-more (λ j. getD marks (neighbour g (getD queue j 0) p) 0 ≡ 1 → ⊥) head
+                (λ j l. S .searching .spread j p l k)
                 (rw (S .here) (S .done p k)) i h;
             count = S .searching .count;
             order = (let o = S .more in omega arith);
@@ -360,7 +368,8 @@ module _ (g : Grid) (base half value : ℕ) where
           took : Searching g value (partOf (size g) base w') (partOf (size g) half w') head (len + 1)
           took =
               rw (take-marks m len on less) (rw (take-queue m len on less)
-              (taken g value big marks (length-part (size g) base w) m on is-one queue (length-part (size g) half w) head len (S .searching)))
+              (taken g value big marks (length-part (size g) base w) m on is-one queue (length-part (size g) half w) head len
+              (S .searching)))
 
           no-one : (k : ℕ) → k < p + 1 → getD (partOf (size g) base w') (neighbour g x k) 0 ≡ 1 → ⊥
           no-one = rw (take-marks m len on less) (below-more _ p (λ k h e. S .done k h (old k e (ℕ-discrete (neighbour g x k) m))) last)
@@ -371,7 +380,8 @@ module _ (g : Grid) (base half value : ℕ) where
               last : getD (set marks m value) m 0 ≡ 1 → ⊥
               last e = let n = new in omega arith
 
-              old : (k : ℕ) → getD (set marks m value) (neighbour g x k) 0 ≡ 1 → Dec (neighbour g x k ≡ m) → getD marks (neighbour g x k) 0 ≡ 1
+              old : (k : ℕ) → getD (set marks m value) (neighbour g x k) 0 ≡ 1 → Dec (neighbour g x k ≡ m) →
+                  getD marks (neighbour g x k) 0 ≡ 1
               old k e (yes q) = absurd (last (rw q at e))
               old k e (no f) = sym (getD-set-other marks m (neighbour g x k) value 0 f) ∙ e
 

@@ -2,10 +2,18 @@
 use mathlib.Core.Path.{sym, subst}
 use mathlib.Core.Logic.{inl, inr, ⊎-elim}
 use mathlib.Core.List.{List, [], _∷_}
-use Prim.Native.Nat.{ℕ}
+use Prim.Native.Nat.{ℕ, _≤_}
+use native.Mathlib.Omega.{arith}
+use lib.ListN.{length}
 use Rattle.grid.specs.Below.{In, Distinct}
 use Rattle.grid_laws.proofs.Few.{in?}
 use Rattle.join_laws.specs.Ways.{Way, stop, step, cells}
+
+-- a way has a cell
+pub some-cell : {Out : ℕ → Type 0} {Next : ℕ → ℕ → Type 0} {c : ℕ} (w : Way Out Next c) → length (cells w) ≤ 0 → ⊥
+unfolding cells
+some-cell (stop o) h = omega arith
+some-cell (step b w) h = omega arith
 
 module _ (Out : ℕ → Type 0) (Next : ℕ → ℕ → Type 0) where
   -- a way from x that comes to no cell twice, and to cells of l only

@@ -156,6 +156,8 @@ knownGround =
     ∷ numbers (table 2 (pondCells (gridOf 4 6) poolNumbers)) (2 ∷ 1 ∷ [])
     ∷ numbers (table 2 (pondVolume (gridOf 4 6) pools (filled (gridOf 4 6) pools) poolNumbers)) (11 ∷ 3 ∷ [])
     ∷ numbers ((pondsCheck (gridOf 4 6) pools 24 1 1 1 96) .number ∷ (pondsCheck (gridOf 4 6) pools 24 1 1 1 96) .place ∷ []) (14 ∷ 2 ∷ [])
+    -- columns of unlike length get 8, before 9
+    ∷ numbers ((pondsCheck (gridOf 4 6) pools 24 1 2 1 0) .number ∷ []) (8 ∷ [])
     -- "Rows 4,000 passes, 4,001 gets 5. Codes 2 and 32 side by side, facing each other, get 12"
     ∷ numbers ((fillCheck (gridOf 4000 1) 4000 4000 16000) .number ∷ []) (0 ∷ [])
     ∷ numbers ((fillCheck (gridOf 4001 1) 4001 4001 16004) .number ∷ []) (5 ∷ [])

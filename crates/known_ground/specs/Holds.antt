@@ -18,10 +18,12 @@ use Rattle.known_ground.specs.Cases.{allHold, knownGround}
 
 pub known-ground : allHold knownGround ≡ true
 unfolding allHold knownGround table anyBelow sumBelow countBelow firstBelow joinBelow has lastOf void top eqZ lower higher isData
-    positionOf moved cellAt neighbour leavesAt isOutlet outletCode startAt lowestTo passAt passes filled dropTo squaredDistance beats beaten
+    positionOf moved cellAt neighbour leavesAt isOutlet outletCode startAt lowestTo passAt passes filled dropTo squaredDistance beats
+    beaten
     isSteepest steepestSum member score bestOf choice isEqual hasDescent isLevelZero levelPassAt levelPasses levels flatSum directionAt
     directions firstUnlevelled follow endsBy hasCode receiver countAt labelAt counts labels firstBadCode firstEndless joinPass
     joinPasses joined isWet pondOf lowestCell isLowest ponds pondCount natural depth pondLevel pondCells pondVolume inRange askSize allHave
-    askSheets askWork askCodes fillCheck codesCheck drainCheck pondsCheck hexValue isTextByte number4 textGrid endsLine isShaped firstBadByte
+    askSheets askWork askCodes fillCheck codesCheck drainCheck pondsCheck hexValue isTextByte number4 textGrid endsLine isShaped
+    firstBadByte
     readCheck fromTwos toTwos textSheet upperDigit hexText sheetText headerText resultText refusalText drainText programText
 known-ground = refl

@@ -20,19 +20,22 @@ use Rattle.pond_laws.proofs.Numbered.{ponds-all, length-ponds, last-marks, last
 use Rattle.pond_laws.proofs.Depth.{key-≤-filled, depth-by-keys}
 use Rattle.pond_laws.proofs.Gathered.{column-same, gather-none, gather-dry, gather-wet, cells-bound, volume-bound}
 use Rattle.pond_numbers.specs.State.{Sizes, Numbered}
-use Rattle.pond_columns.specs.State.{Cleared, Added, Fits, OneLength}
+use Rattle.pond_columns.specs.State.{Cleared, Added, HasRoom, OneLength}
 
 -- ---- clearing
 
 pub cleared-none : (l : List ℕ) → Cleared 0 l l
-cleared-none l = record { same-length = refl; zero = λ k h. let z : ⊥ = omega arith in absurd z; past = λ k h. refl }
+cleared-none l = record { column = column-same 0 0 l; zero = λ k h. let z : ⊥ = omega arith in absurd z }
 
 pub cleared-more : {old : List ℕ} (l : List ℕ) (k : ℕ) → k < length l → Cleared k old l → Cleared (k + 1) old (set l k 0)
 cleared-more l k h C =
     record {
-      same-length = length-set l k 0 ∙ C .same-length;
+      column =
+          record {
+            same-length = length-set l k 0 ∙ C .column .same-length;
+            past = λ j b. getD-set-other l k j 0 0 (λ q. omega arith) ∙ C .column .past j (omega arith);
+          };
       zero = λ j b. go j b (ℕ-discrete j k);
-      past = λ j b. getD-set-other l k j 0 0 (λ q. omega arith) ∙ C .past j (omega arith);
     }
   where
     go : (j : ℕ) → j < k + 1 → Dec (j ≡ k) → getD (set l k 0) j 0 ≡ 0
@@ -41,23 +44,21 @@ cleared-more l k h C =
 
 pub one-cleared : {count : ℕ} {level : List ℤ} {cells₀ cells volume₀ volume : List ℕ} → OneLength level cells₀ volume₀ →
     Cleared count cells₀ cells → Cleared count volume₀ volume → OneLength level cells volume
-one-cleared O C D = record { cells-long = C .same-length ∙ O .cells-long; volume-long = D .same-length ∙ O .volume-long }
-
-cleared-column : (count : ℕ) {old new : List ℕ} → Cleared count old new → Column 0 count old new
-cleared-column count C = record { same-length = C .same-length; past = C .past }
+one-cleared O C D = record { cells-long = C .column .same-length ∙ O .cells-long; volume-long = D .column .same-length ∙ O .volume-long }
 
 column-on : {A : Type 0} (d : A) (count : ℕ) {a b c : List A} → Column d count a b → Column d count b c → Column d count a c
 column-on d count p q = record { same-length = q .same-length ∙ p .same-length; past = λ j h. q .past j h ∙ p .past j h }
 
 -- gathered into cleared columns is gathered into the columns as they were
-pub gathered-from : (e f : List ℤ) (l : List ℕ) (count n : ℕ) {level₀ level : List ℤ} {cells₀ cells₁ cells volume₀ volume₁ volume : List ℕ} →
+pub gathered-from : (e f : List ℤ) (l : List ℕ) (count n : ℕ) {level₀ level : List ℤ}
+    {cells₀ cells₁ cells volume₀ volume₁ volume : List ℕ} →
     Cleared count cells₀ cells₁ → Cleared count volume₀ volume₁ → Gathered e f l count n level₀ level cells₁ cells volume₁ volume →
     Gathered e f l count n level₀ level cells₀ cells volume₀ volume
 gathered-from e f l count n C D G =
     record {
       level-column = G .level-column;
-      cells-column = column-on 0 count (cleared-column count C) (G .cells-column);
-      volume-column = column-on 0 count (cleared-column count D) (G .volume-column);
+      cells-column = column-on 0 count (C .column) (G .cells-column);
+      volume-column = column-on 0 count (D .column) (G .volume-column);
       levels = G .levels;
       counts = G .counts;
       volumes = G .volumes;
@@ -91,7 +92,8 @@ module _ (g : Grid) (e : List ℤ) (w : List ℕ) (count : ℕ) (Z : Sizes g e (
       Gathered e (filled g e) (ponds g e) (pondCount g e) 0 level level cells cells volume volume
   gather-first level cells volume a b =
       let q = count-is in
-      gather-none e (filled g e) (ponds g e) (pondCount g e) level (column-same 0 (pondCount g e) cells) (column-same 0 (pondCount g e) volume)
+      gather-none e (filled g e) (ponds g e) (pondCount g e) level (column-same 0 (pondCount g e) cells)
+      (column-same 0 (pondCount g e) volume)
       (λ k h. a k (omega arith)) (λ k h. b k (omega arith))
 
   module _ (c : ℕ) (on : c < size g) where
@@ -129,7 +131,7 @@ module _ (g : Grid) (e : List ℤ) (w : List ℕ) (count : ℕ) (Z : Sizes g e (
       volume-in h =
           let q = count-is in let k = within h in let l = G .volume-column .same-length in let o = O .volume-long in omega arith
 
-      pub fits : 2 ≤ mark → Fits (mark - 2) (getD w c 0) level cells volume
+      pub fits : 2 ≤ mark → HasRoom (mark - 2) (getD w c 0) level cells volume
       fits h =
           let few = Z .few in
           let a = words-key g e w (Z .long) (N .range) (N .words) c on in
@@ -157,4 +159,5 @@ module _ (g : Grid) (e : List ℤ) (w : List ℕ) (count : ℕ) (Z : Sizes g e (
               ⊎-elim (λ z. omega arith) (λ z. let y : ⊥ = omega arith in absurd y) (last-kinds g e (Z .long) c on)
       added (inr (h, P)) =
           rw (P .level) (rw (P .cells) (rw (P .volume) (rw depth-is (rw (words-level g e w (Z .long) (N .range) (N .words) c on)
-          (gather-wet g e (Z .long) (N .range) (pondCount g e) c (mark - 2) (pond-is h) (within h) (level-in h) (cells-in h) (volume-in h) G)))))
+          (gather-wet g e (Z .long) (N .range) (pondCount g e) c (mark - 2) (pond-is h) (within h) (level-in h) (cells-in h)
+          (volume-in h) G)))))

@@ -1,7 +1,7 @@
 // The results of the ponds of document 02, out of the marks and the flood's words: the sheet of numbers, and "Three columns of one length"
 // that "hold filled elevation, cell count and volume". The first places are cleared, and one scan writes the numbers and adds each cell
 // to the place of its pond. No sum wraps, because a pond has fewer than 2^24 cells of a depth below 2^16. Proved by `Gathered` of
-// pond_laws.
+// pond_laws. The elevations are handed on for the contracts alone.
 use grid::Grid;
 use pond_numbers::mark_at;
 ghost use mathlib.Core.Path.{_≡_};
@@ -12,7 +12,7 @@ ghost use Rattle.grid.specs.Fill.{filled};
 ghost use Rattle.grid.specs.Ponds.{ponds as ponds', pondCount};
 ghost use Rattle.pond_laws.specs.Gathered.{Gathered};
 ghost use Rattle.pond_numbers.specs.State.{Sizes, Numbered};
-ghost use Rattle.pond_columns.specs.State.{Cleared, Put, Added, Fits, OneLength};
+ghost use Rattle.pond_columns.specs.State.{Cleared, Put, Added, HasRoom, OneLength};
 
 // Sets the first places of two columns to 0.
 fn clear(count: usize, cells: &mut [u32], volume: &mut [u64])
@@ -31,7 +31,7 @@ fn clear(count: usize, cells: &mut [u32], volume: &mut [u64])
 
 // Adds a cell to the pond at the place `k`.
 fn put(k: usize, word: u32, level: &mut [i16], cells: &mut [u32], volume: &mut [u64])
-    requires { ⌜ Fits k word (now level) (now cells) (now volume) ⌝ }
+    requires { ⌜ HasRoom k word (now level) (now cells) (now volume) ⌝ }
     ensures { λ r. ⌜ Put k word (now (level .entry)) (now (level .exit)) (now (cells .entry)) (now (cells .exit)) (now (volume .entry))
         (now (volume .exit)) ⌝ }
 {
@@ -42,7 +42,7 @@ fn put(k: usize, word: u32, level: &mut [i16], cells: &mut [u32], volume: &mut [
 
 // Adds a cell to the pond of its mark, if it has one.
 fn add(mark: u32, word: u32, level: &mut [i16], cells: &mut [u32], volume: &mut [u64])
-    requires { ⌜ (2 ≤ mark → Fits (mark - 2) word (now level) (now cells) (now volume)) ⌝ }
+    requires { ⌜ (2 ≤ mark → HasRoom (mark - 2) word (now level) (now cells) (now volume)) ⌝ }
     ensures { λ r. ⌜ Added mark word (now (level .entry)) (now (level .exit)) (now (cells .entry)) (now (cells .exit))
         (now (volume .entry)) (now (volume .exit)) ⌝ }
 {

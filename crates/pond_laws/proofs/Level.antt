@@ -1,6 +1,6 @@
 -- "All cells of a pond share one filled elevation": a wet cell is no higher than any data neighbour, so two wet neighbours are level. And
 -- the cells of one number are those of one pond.
-use mathlib.Core.Path.{_≡_, sym, _∙_, ap}
+use mathlib.Core.Path.{_≡_, sym, _∙_, ap, subst}
 use mathlib.Core.Bool.{true}
 use mathlib.Core.Logic.{⊎-elim}
 use mathlib.Core.List.{List}
@@ -27,6 +27,7 @@ use Rattle.fill_laws.proofs.Filled.{one-pass-more}
 use Rattle.join_laws.specs.Ways.{stop, step, Joins}
 use Rattle.join_laws.proofs.Joined.{joined-way}
 use Rattle.pond_laws.proofs.Same.{InPond, wet-data, wet-on, lowest-on, lowest-in, lowest-is, is-lowest, dry-not-lowest}
+use Rattle.pond_laws.proofs.Same.{pond-back, pond-on, pond-wet, lowest-same}
 use Rattle.pond_laws.proofs.Numbered.{number-dry, number-wet}
 
 module _ (g : Grid) (e : List ℤ) (long : length e ≡ size g) (range : InRange e) where
@@ -71,15 +72,25 @@ module _ (g : Grid) (e : List ℤ) (long : length e ≡ size g) (range : InRange
   numbered-count : (c k : ℕ) → getD (ponds g e) c 0 ≡ k + 1 → countBelow (lowestCell g e f c) (isLowest g e f) ≡ k
   numbered-count c k q = let a = number-wet g e long c (numbered-wet c k q) in omega arith
 
-  pub same-number : (c d k : ℕ) → getD (ponds g e) c 0 ≡ k + 1 → getD (ponds g e) d 0 ≡ k + 1 → at (filled g e) c ≡ at (filled g e) d
-  same-number c d k q r =
+  -- cells of one number are in one pond
+  pub same-pond : (c d k : ℕ) → getD (ponds g e) c 0 ≡ k + 1 → getD (ponds g e) d 0 ≡ k + 1 → InPond g e (filled g e) d c
+  same-pond c d k q r =
       let t = numbered-wet c k q in
       let u = numbered-wet d k r in
       let s = count-apart (lowestCell g e f c) (lowestCell g e f d) (isLowest g e f) (lowest-is g e f long c t) (lowest-is g e f long d u)
       (numbered-count c k q ∙ sym (numbered-count d k r)) in
-      sym (pond-level c (lowestCell g e f c) (lowest-in g e f long c t))
-      ∙ ap (at f) s
-      ∙ pond-level d (lowestCell g e f d) (lowest-in g e f long d u)
+      pond-on g e f long d (lowestCell g e f d) c (lowest-in g e f long d u)
+      (subst (λ (x : ℕ). InPond g e f x c) s (pond-back g e f long c (lowestCell g e f c) (lowest-in g e f long c t)))
+
+  pub same-number : (c d k : ℕ) → getD (ponds g e) c 0 ≡ k + 1 → getD (ponds g e) d 0 ≡ k + 1 → at (filled g e) c ≡ at (filled g e) d
+  same-number c d k q r = pond-level d c (same-pond c d k q r)
+
+  -- and the cells of one pond have one number
+  pub one-number : (c d : ℕ) → InPond g e (filled g e) d c → getD (ponds g e) c 0 ≡ getD (ponds g e) d 0
+  one-number c d p =
+      number-wet g e long c (pond-wet g e f long d c p)
+      ∙ ap (λ (x : ℕ). countBelow x (isLowest g e f) + 1) (sym (lowest-same g e f long d c p))
+      ∙ sym (number-wet g e long d (pond-wet g e f long c d (pond-back g e f long d c p)))
 
   -- the lowest cell of the pond
   pub some-cell : (k : ℕ) → k < pondCount g e → (c : ℕ) × (c < size g) × (getD (ponds g e) c 0 ≡ k + 1)

@@ -19,7 +19,7 @@ use Rattle.grid_laws.proofs.Below.{first-none, first-found, first-least, first-
 use Rattle.grid_laws.proofs.Cells.{on-sheet}
 use Rattle.grid_laws.proofs.Neighbours.{touch-back}
 use Rattle.join_laws.specs.Ways.{stop, step, Joins}
-use Rattle.join_laws.proofs.Joined.{joined-way, way-joined}
+use Rattle.join_laws.proofs.Joined.{way-member, joined-way, way-joined}
 
 -- d is joined to c through the set
 abbrev pub Together : Grid → (ℕ → Bool) → ℕ → ℕ → Type 0
@@ -47,12 +47,8 @@ module _ (g : Grid) (member : ℕ → Bool) (on : (c : ℕ) → member c ≡ tru
   together-on c d x t u =
       way-joined g member (eqb c) on (way-on c d (joined-way g member (eqb d) on x u) (joined-way g member (eqb c) on d t))
 
-  way-member : (c : ℕ) {d : ℕ} → Joins g member (eqb c) d → member d ≡ true
-  way-member c (stop o) = o .0
-  way-member c (step b w) = b .0
-
   pub together-member : (c d : ℕ) → Together g member c d → member d ≡ true
-  together-member c d t = way-member c (joined-way g member (eqb c) on d t)
+  together-member c d t = way-member g member (eqb c) (joined-way g member (eqb c) on d t)
 
 -- ---- the ponds of an input e and a filled sheet f
 -- d is in the pond of c
@@ -95,9 +91,6 @@ module _ (g : Grid) (e f : List ℤ) (long : length e ≡ size g) where
     pub lowest-in : InPond g e f d (lowestCell g e f d)
     unfolding lowestCell
     lowest-in = first-found (size g) (λ x. getD (pondOf g e f d) x false) lowest-on
-
-    pub lowest-wet : isWet e f (lowestCell g e f d) ≡ true
-    lowest-wet = pond-wet d (lowestCell g e f d) lowest-in
 
   pub lowest-same : (c d : ℕ) → InPond g e f c d → lowestCell g e f c ≡ lowestCell g e f d
   unfolding lowestCell

@@ -1,5 +1,5 @@
--- "The volumes add up to the sum of the differences over the whole sheet": the sum over the ponds and the sum over the cells change places;
--- a wet cell is in the volume of one pond, and a dry one has no depth.
+-- "The volumes add up to the sum of the differences over the whole sheet": the sum over the ponds and the sum over the cells change
+-- places; a wet cell is in the volume of one pond, and a dry one has no depth.
 use mathlib.Core.Path.{_≡_, refl, sym, _∙_}
 use mathlib.Core.Bool.{true, false, cond}
 use mathlib.Core.Logic.{_⊎_, inl, inr}

@@ -74,7 +74,8 @@ marked-all g e w₀ w long range W M =
 pub sizes-same : {g : Grid} {e : List ℤ} {l l' : ℕ} → Sizes g e l → l' ≡ l → Sizes g e l'
 sizes-same {g} {e} Z q = subst (Sizes g e) (sym q) Z
 
-module _ (g : Grid) (e : List ℤ) (w : List ℕ) (half c count : ℕ) (Z : Sizes g e (length w)) (middle : half ≡ length w / 2) (on : c < size g)
+module _ (g : Grid) (e : List ℤ) (w : List ℕ) (half c count : ℕ) (Z : Sizes g e (length w)) (middle : half ≡ length w / 2)
+    (on : c < size g)
     (N : Numbered g e w c count) where
   pub parts : Parts (size g) (size g) half (length w)
   parts =

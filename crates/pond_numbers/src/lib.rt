@@ -1,6 +1,7 @@
 // The ponds of document 02 in the work buffer: "counted from 1 by each pond's lowest cell number". The flood's words say which cells are
 // wet, the filled key above the key. In a scan by rising cell number each wet cell without a number is the lowest of its pond, and `join`
 // gives the pond its mark, one more than its number. Proved by `specs/State`: at each cell of the scan the marks are those of pond_laws.
+// The elevations are handed on for the contracts alone.
 use grid::Grid;
 ghost use mathlib.Core.Path.{_≡_};
 ghost use mathlib.Core.Bool.{cond};
@@ -47,7 +48,7 @@ pub fn mark_at(g: Grid, c: usize, work: &[u32]) -> u32
     work[g.rows * g.cols + c]
 }
 
-// Numbers the pond of the cell `c`, after `count` others, if that is its lowest cell. The elevations stand here for the contract.
+// Numbers the pond of the cell `c`, after `count` others, if that is its lowest cell.
 fn number_at(
     g: Grid,
     elevations: &[i16],

@@ -17,9 +17,10 @@ use Rattle.grid.specs.Ponds as P
 use Rattle.grid.specs.Checks.{refusal, accepted, ask, isAccepted, ofCounted, allHave, askSheets, askWork, pondsCheck}
 use Rattle.grid.specs.Promises.{PondsPromise}
 use Rattle.grid_laws.proofs.Tests.{T-true, cond-true, cond-false}
-use Rattle.checks.proofs.Gate.{Gate, passed, answered-no, answered-yes, next-no}
+use Rattle.checks.proofs.Gate.{Gate, one, both, passed, answered-no, next-no, next-yes}
 use Rattle.checks.proofs.Asked.{Sheets, sheets-gate, one-input, all-are}
 use Rattle.pond_laws.specs.Gathered.{Gathered}
+use Rattle.pond_laws.proofs.Level.{same-pond, one-number}
 use Rattle.pond_laws.proofs.Depth.{difference}
 use Rattle.pond_laws.proofs.Total.{no-wrap}
 use Rattle.pond_laws.proofs.Columns.{level-column, cells-column, volume-column, one-level, total-column}
@@ -85,6 +86,7 @@ module _ (g : Grid) (e : List ℤ) (ponds₀ : List ℕ) (level₀ : List ℤ) (
         cells = kept _ cells₀;
         volume = kept _ volume₀;
         work = record { same-length = refl; untouched = λ l h. refl };
+        one-pond = λ t. none t;
         one-level = λ t. none t;
         difference = λ t. none t;
         total = λ t. none t;
@@ -120,7 +122,8 @@ module _ (g : Grid) (e : List ℤ) (ponds₀ : List ℕ) (level₀ : List ℤ) (
       cells-few = sheets .fits .cells
 
       pub promise-columns : allHave (length level₀) (length cells₀ ∷ length volume₀ ∷ []) ≡ false
-          → PondsPromise g e ponds₀ ponds₀ level₀ level₀ cells₀ cells₀ volume₀ volume₀ work₀ work₀ (record { number = 8; place = 0; count = 0 })
+          → PondsPromise g e ponds₀ ponds₀ level₀ level₀ cells₀ cells₀ volume₀ volume₀ work₀ work₀
+          (record { number = 8; place = 0; count = 0 })
       unfolding pondsCheck
       promise-columns h = refusal-promise 8 0 (λ z. omega arith) (next-no before-columns first yes (refusal 8 0) _ h)
 
@@ -133,16 +136,22 @@ module _ (g : Grid) (e : List ℤ) (ponds₀ : List ℕ) (level₀ : List ℤ) (
         pub ponds-long : length ponds₀ ≡ size g
         ponds-long = sheets .results-have .0
 
-        columns-then : (later : Answer) →
-            later ≡ askSheets g (length e ∷ []) (length ponds₀ ∷ [])
-            (ask (allHave (length level₀) (length cells₀ ∷ length volume₀ ∷ [])) (refusal 8 0) later)
-        columns-then later = sym (cond-true later (refusal 8 0) alike) ∙ answered-yes before-columns first yes _
+        -- what 9 is asked after
+        before-9 : Gate
+            (λ later. askSheets g (length e ∷ []) (length ponds₀ ∷ [])
+            (ask (allHave (length level₀) (length cells₀ ∷ length volume₀ ∷ [])) (refusal 8 0) later))
+            (Sheets g (length e ∷ []) (length ponds₀ ∷ []) × (allHave (length level₀) (length cells₀ ∷ length volume₀ ∷ []) ≡ true))
+        before-9 = both before-columns (one (allHave (length level₀) (length cells₀ ∷ length volume₀ ∷ [])) 8 0 (omega arith))
+
+        yes-to-8 : accepted ≡ askSheets g (length e ∷ []) (length ponds₀ ∷ [])
+            (ask (allHave (length level₀) (length cells₀ ∷ length volume₀ ∷ [])) (refusal 8 0) accepted)
+        yes-to-8 = next-yes before-columns first yes (refusal 8 0) accepted alike
 
         pub promise-room : leb (4 * size g) (length work₀) ≡ false
             → PondsPromise g e ponds₀ ponds₀ level₀ level₀ cells₀ cells₀ volume₀ volume₀ work₀ work₀
             (record { number = 9; place = 0; count = 0 })
         unfolding pondsCheck askWork
-        promise-room h = refusal-promise 9 0 (λ z. omega arith) (sym (cond-false _ (refusal 9 0) h) ∙ columns-then _)
+        promise-room h = refusal-promise 9 0 (λ z. omega arith) (next-no before-9 yes-to-8 refl (refusal 9 0) _ h)
 
         module _ (roomy : leb (4 * size g) (length work₀) ≡ true) where
           pub sizes : Sizes g e (length work₀)
@@ -163,13 +172,17 @@ module _ (g : Grid) (e : List ℤ) (ponds₀ : List ℕ) (level₀ : List ℤ) (
           unfolding pondsCheck askWork
           promise-settled {ponds₁} {level₁} {volume₁ = volume₁} {r = r} S same =
               record {
-                answer = S .answer ∙ sym (cond-true _ (refusal 9 0) roomy) ∙ columns-then _;
+                answer = S .answer ∙ next-yes before-9 yes-to-8 refl (refusal 9 0) _ roomy;
                 count = S .count;
                 ponds = S .ponds;
                 level = S .level;
                 cells = S .cells;
                 volume = S .volume;
                 work = record { same-length = same; untouched = λ l h. absurd (S .late l h) };
+                one-pond = λ t c d k q. let is = made _ _ (S .ponds) t in (
+                  λ p. same-pond g e (sizes .long) (S .range) c d k (rw is at p) (rw is at q),
+                  λ p. rw is (one-number g e (sizes .long) (S .range) c d p) ∙ q,
+                );
                 one-level = λ t c k q.
                     one-level g e (sizes .long) (S .range) level₀ c k (ap (λ (l : List ℕ). getD l c 0) (sym (made _ _ (S .ponds) t)) ∙ q)
                     ∙ ap (λ (l : List ℤ). at l k) (sym (made _ _ (S .level) t));

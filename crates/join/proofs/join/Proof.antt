@@ -36,7 +36,8 @@ add-head c =
     let a = s .args in
     let l = c .before .before .before .before .before .loop in
     let P = s .pre .0 .few in
-    let h = queue-cell (a .g) (a .base) (a .half) (a .value) (s .pre .1 .0) (l .work) (parts-same (s .pre .0) (l .inv .0)) (l .head) (l .tail)
+    let h = queue-cell (a .g) (a .base) (a .half) (a .value) (s .pre .1 .0) (l .work) (parts-same (s .pre .0) (l .inv .0)) (l .head)
+    (l .tail)
     (l .inv .1) (c .before .before .before .before .loop-test .taken) .0 in
     omega arith
 
@@ -45,7 +46,8 @@ loop-less c =
     let s = c .before .before .before .before .before .before .before in
     let a = s .args in
     let l = c .before .before .before .before .before .loop in
-    let h = queue-cell (a .g) (a .base) (a .half) (a .value) (s .pre .1 .0) (l .work) (parts-same (s .pre .0) (l .inv .0)) (l .head) (l .tail)
+    let h = queue-cell (a .g) (a .base) (a .half) (a .value) (s .pre .1 .0) (l .work) (parts-same (s .pre .0) (l .inv .0)) (l .head)
+    (l .tail)
     (l .inv .1) (c .before .before .before .before .loop-test .taken) .0 in
     omega arith
 
@@ -70,8 +72,11 @@ returns c =
     let l = c .before .loop in
     let o = l .inv .1 .order in
     let t = c .loop-test .left in
-    let e : l .head ≡ l .tail = omega arith in
-    (searched (a .g) (a .base) (a .half) (a .value) (s .pre .1 .0) (a .work .now) (s .pre .0) (l .work) (l .tail) (l .inv .2) (rw e at (l .inv .1)), l .inv .2)
+    let e : l .head ≡ l .tail = omega arith in (
+      searched (a .g) (a .base) (a .half) (a .value) (s .pre .1 .0) (a .work .now) (s .pre .0) (l .work) (l .tail) (l .inv .2)
+          (rw e at (l .inv .1)),
+      l .inv .2,
+    )
 
 pub join-spec : {M : Type 1} → statement M
 join-spec =

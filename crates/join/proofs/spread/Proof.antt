@@ -77,7 +77,8 @@ spread-inner-requires c κs =
     let a = s .args in
     let p = s .pre in
     let i = c .before .before .is-inner .ensures (c .before .if1 .taken) in
-    let d = spread-none (a .g) (a .base) (a .half) (a .value) (p .1 .0) (a .work .now) (p .0) (a .head) (a .len) (p .1 .1 .0) (p .1 .1 .1 .0) in
+    let d = spread-none (a .g) (a .base) (a .half) (a .value) (p .1 .0) (a .work .now) (p .0) (a .head) (a .len) (p .1 .1 .0)
+    (p .1 .1 .1 .0) in
     (p .0, (p .1 .0, (d, (i, p .1 .1 .1 .1))))
 
 same-length : tie.Need-same-length
@@ -91,8 +92,10 @@ spread-border-requires c κs =
     let s = c .before .before .before .before .before in
     let a = s .args in
     let p = s .pre in
-    let d = spread-none (a .g) (a .base) (a .half) (a .value) (p .1 .0) (a .work .now) (p .0) (a .head) (a .len) (p .1 .1 .0) (p .1 .1 .1 .0) in
-    let h = queue-cell (a .g) (a .base) (a .half) (a .value) (p .1 .0) (a .work .now) (p .0) (a .head) (a .len) (p .1 .1 .0) (p .1 .1 .1 .0) .1 in
+    let d = spread-none (a .g) (a .base) (a .half) (a .value) (p .1 .0) (a .work .now) (p .0) (a .head) (a .len) (p .1 .1 .0)
+    (p .1 .1 .1 .0) in
+    let h = queue-cell (a .g) (a .base) (a .half) (a .value) (p .1 .0) (a .work .now) (p .0) (a .head) (a .len) (p .1 .1 .0)
+    (p .1 .1 .1 .0) .1 in
     (p .0, (p .1 .0, (d, h)))
 
 same-length-2 : tie.Need-same-length-2

@@ -17,16 +17,16 @@ loop-holds : tie.Need-loop-holds Inv-loop μ-loop
 loop-holds c = let a = c .args in (omega arith, cleared-none (a .cells .now), cleared-none (a .volume .now))
 
 mul-cells : tie.Need-mul-cells Inv-loop μ-loop
-mul-cells c = let l = c .before .loop .inv .1 .same-length in omega arith
+mul-cells c = let l = c .before .loop .inv .1 .column .same-length in omega arith
 
 slice-write-cells : tie.Need-slice-write-cells Inv-loop μ-loop
-slice-write-cells c = let l = c .before .loop .inv .1 .same-length in omega arith
+slice-write-cells c = let l = c .before .loop .inv .1 .column .same-length in omega arith
 
 mul-volume : tie.Need-mul-volume Inv-loop μ-loop
-mul-volume c = let l = c .before .loop .inv .2 .same-length in omega arith
+mul-volume c = let l = c .before .loop .inv .2 .column .same-length in omega arith
 
 slice-write-volume : tie.Need-slice-write-volume Inv-loop μ-loop
-slice-write-volume c = let l = c .before .loop .inv .2 .same-length in omega arith
+slice-write-volume c = let l = c .before .loop .inv .2 .column .same-length in omega arith
 
 add-k : tie.Need-add-k Inv-loop μ-loop
 add-k c = omega arith
@@ -38,15 +38,15 @@ loop-again : tie.Need-loop-again Inv-loop μ-loop
 loop-again c =
     let l = c .before .loop in
     let t = c .loop-test .taken in
-    let p = l .inv .1 .same-length in
-    let q = l .inv .2 .same-length in
+    let p = l .inv .1 .column .same-length in
+    let q = l .inv .2 .column .same-length in
     (omega arith, cleared-more (l .cells) (l .k) (omega arith) (l .inv .1), cleared-more (l .volume) (l .k) (omega arith) (l .inv .2))
 
 same-length : tie.Need-same-length Inv-loop μ-loop
-same-length c = c .before .loop .inv .1 .same-length
+same-length c = c .before .loop .inv .1 .column .same-length
 
 same-length-2 : tie.Need-same-length-2 Inv-loop μ-loop
-same-length-2 c = c .before .loop .inv .2 .same-length
+same-length-2 c = c .before .loop .inv .2 .column .same-length
 
 returns : tie.Need-returns Inv-loop μ-loop
 returns c =

@@ -44,7 +44,9 @@ pond-number-requires : tie.Need-pond-number-requires Inv-loop μ-loop
 pond-number-requires c κs = tt
 
 mul-ponds : tie.Need-mul-ponds Inv-loop μ-loop
-mul-ponds c = let f = c .before .before .before .before .before .before .before .before .before .pre .0 .few in let t = c .before .before .loop-test .taken in omega arith
+mul-ponds c =
+    let f = c .before .before .before .before .before .before .before .before .before .pre .0 .few in
+    let t = c .before .before .loop-test .taken in omega arith
 
 slice-write-ponds : tie.Need-slice-write-ponds Inv-loop μ-loop
 slice-write-ponds c =
@@ -54,10 +56,14 @@ slice-write-ponds c =
     omega arith
 
 mul-add : tie.Need-mul-add Inv-loop μ-loop
-mul-add c = let f = c .before .before .before .before .before .before .before .before .before .pre .0 .few in let t = c .before .before .loop-test .taken in omega arith
+mul-add c =
+    let f = c .before .before .before .before .before .before .before .before .before .pre .0 .few in
+    let t = c .before .before .loop-test .taken in omega arith
 
 shared-slice-read-add : tie.Need-shared-slice-read-add Inv-loop μ-loop
-shared-slice-read-add c = let r = c .before .before .before .before .before .before .before .before .before .before .pre .0 .room in let t = c .before .before .before .loop-test .taken in omega arith
+shared-slice-read-add c =
+    let r = c .before .before .before .before .before .before .before .before .before .before .pre .0 .room in
+    let t = c .before .before .before .loop-test .taken in omega arith
 
 add-requires : tie.Need-add-requires Inv-loop μ-loop
 add-requires c κs =
@@ -66,17 +72,21 @@ add-requires c κs =
     let l = c .before .before .before .before .before .before .before .loop in
     let t = c .before .before .before .before .before .before .loop-test .taken in
     let e = c .before .before .before .before .before .mark-at .ensures in
-    rw e (λ h. fits (a .g) (a .elevations .now) (a .work .now) (a .count) (s .pre .0) (s .pre .1 .0) (l .c) t (l .inv .3) (s .pre .1 .1 .1 .0)
+    rw e (λ h. fits (a .g) (a .elevations .now) (a .work .now) (a .count) (s .pre .0) (s .pre .1 .0) (l .c) t (l .inv .3)
+    (s .pre .1 .1 .1 .0)
     (s .pre .1 .1 .1 .1 .0) h)
 
 add-c : tie.Need-add-c Inv-loop μ-loop
 add-c c =
-    let f = c .before .before .before .before .before .before .before .before .before .before .before .before .before .before .before .before .before .before .before .pre .0 .few in
-    let t = c .before .before .before .before .before .before .before .before .before .before .before .before .loop-test .taken in
+    let b = c .before .before .before .before .before .before .before .before .before .before .before .before in
+    let f = b .before .before .before .before .before .before .before .pre .0 .few in
+    let t = b .loop-test .taken in
     omega arith
 
 loop-less : tie.Need-loop-less Inv-loop μ-loop
-loop-less c = let t = c .before .before .before .before .before .before .before .before .before .before .before .before .loop-test .taken in omega arith
+loop-less c =
+    let t = c .before .before .before .before .before .before .before .before .before .before .before .before .loop-test .taken in
+    omega arith
 
 loop-again : tie.Need-loop-again Inv-loop μ-loop
 loop-again c =

@@ -1,4 +1,5 @@
 -- Clear, then gather: what is gathered into cleared columns is gathered into those at entry.
+use native.Mathlib.Omega.{arith}
 use Rattle.grid.specs.Sheet.{size}
 use Rattle.pond_columns.proofs.Gathering.{count-is, one-cleared, gathered-from}
 use borrow.Author.Needs.{needs}
@@ -15,7 +16,16 @@ gather-requires c κs =
     let C = k .ensures .0 in
     let D = k .ensures .1 in
     let O = s .pre .1 .1 .1 .1 in
-    (s .pre .0, (s .pre .1 .0, (s .pre .1 .1 .0, (s .pre .1 .1 .1 .0, (one-cleared O C D, (C .zero, D .zero))))))
+    let r = s .pre .1 .1 .1 .0 in (
+      s .pre .0,
+      (
+        s .pre .1 .0,
+        (
+          s .pre .1 .1 .0,
+          (s .pre .1 .1 .1 .0, (one-cleared O C D, (λ k l. C .zero k (omega arith), λ k l. D .zero k (omega arith)))),
+        ),
+      ),
+    )
 
 same-length : tie.Need-same-length
 same-length c = search needs
@@ -31,10 +41,11 @@ same-length-4 c = search needs
 
 returns : tie.Need-returns
 returns c =
-    let k = c .before .before .before .before .before .before .before .before .before .before .before .before .before .before .before .before .clear in
-    let s = c .before .before .before .before .before .before .before .before .before .before .before .before .before .before .before .before .before .before .before .before .before .before .before in
-    let a = s .args in
     let h = c .before .before .before .before .before .before .before .gather in
+    let b = c .before .before .before .before .before .before .before .before .before .before .before .before in
+    let k = b .before .before .before .before .clear in
+    let s = b .before .before .before .before .before .before .before .before .before .before .before in
+    let a = s .args in
     let q = count-is (a .g) (a .elevations .now) (a .work .now) (a .count) (s .pre .0) (s .pre .1 .0) in (
       h .ensures .0,
       gathered-from (a .elevations .now) _ _ _ (size (a .g)) (rw q at (k .ensures .0)) (rw q at (k .ensures .1)) (h .ensures .1),

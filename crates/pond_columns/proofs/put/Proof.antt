@@ -66,7 +66,8 @@ returns : tie.Need-returns
 returns c =
     let a = c .before .before .before .before .before .args in
     record {
-      level = ap (λ (z : ℤ). set (a .level .now) (a .k) z) (toZ-ofZ (sfits-of (c .before .before .elevation .ok)) ∙ c .before .before .elevation .ensures);
+      level = ap (λ (z : ℤ). set (a .level .now) (a .k) z)
+          (toZ-ofZ (sfits-of (c .before .before .elevation .ok)) ∙ c .before .before .elevation .ensures);
       cells = refl;
       volume = refl;
     }

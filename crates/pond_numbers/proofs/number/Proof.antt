@@ -10,7 +10,8 @@ use Rattle.pond_numbers.proofs.number.Statement.{statement}
 use Rattle.pond_numbers.proofs.number.Tie as tie
 
 abbrev Inv-loop : tie.InvT-loop
-Inv-loop g elevations work₀ n half offsets count₀ c₀ work count c = (c ≤ size g) × (length work ≡ length work₀) × Numbered g elevations work c count
+Inv-loop g elevations work₀ n half offsets count₀ c₀ work count c =
+    (c ≤ size g) × (length work ≡ length work₀) × Numbered g elevations work c count
 
 abbrev μ-loop : tie.MeasureT-loop
 μ-loop g elevations work₀ n half offsets count₀ c₀ work count c = size g - c
@@ -30,7 +31,7 @@ number-at-requires c κs =
     let l = c .before .before .before .loop in
     let o = c .before .before .before .before .offsets .ensures in
     let t = c .before .before .loop-test .taken in
-    (sizes-same (s .pre .0) (l .inv .1), (ap (λ (x : ℕ). x / 2) (sym (l .inv .1)), (t, (o, l .inv .2))))
+    (sizes-same (s .pre .0) (l .inv .1), (ap (λ (x : ℕ). x / 2) (sym (l .inv .1)), (omega arith, (o, l .inv .2))))
 
 add-c : tie.Need-add-c Inv-loop μ-loop
 add-c c = let f = c .before .before .before .before .before .before .before .before .before .before .pre .0 .few in omega arith

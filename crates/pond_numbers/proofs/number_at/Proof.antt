@@ -55,7 +55,8 @@ join-requires c κs =
     let one = sym m ∙ c .before .before .before .before .before .if1 .left in
     let w = t .last .1 .1 .1 .1 .1 .0 in
     let P = parts (a .g) (a .elevations .now) (a .work .now) (a .half) (a .c) (a .count) (s .pre .0) (s .pre .1 .0) (s .pre .1 .1 .0) N in
-    let l = taken-long (a .g) (a .elevations .now) (a .work .now) (a .half) (a .c) (a .count) (s .pre .0) (s .pre .1 .0) (s .pre .1 .1 .0) N
+    let l = taken-long (a .g) (a .elevations .now) (a .work .now) (a .half) (a .c) (a .count) (s .pre .0) (s .pre .1 .0)
+    (s .pre .1 .1 .0) N
     one w (t .result) (t .ensures .1) (t .ensures .0) in
     let q = seeded (a .g) (a .elevations .now) (a .work .now) (a .half) (a .c) (a .count) (s .pre .0) (s .pre .1 .0) (s .pre .1 .1 .0) N
     one w (t .result) (t .ensures .1) (t .ensures .0) in

@@ -14,7 +14,8 @@ returns : tie.Need-returns
 returns c =
     let a = c .before .before .before .before .before .before .before .args in
     let q = c .before .before .sheets in
-    promise-first (a .g) (a .elevations .now) (a .ponds .now) (a .level .now) (a .cells .now) (a .volume .now) (a .work .now) (q .result) (q .ensures) (c .if1 .taken)
+    promise-first (a .g) (a .elevations .now) (a .ponds .now) (a .level .now) (a .cells .now) (a .volume .now) (a .work .now) (q .result)
+    (q .ensures) (c .if1 .taken)
 
 both-have-requires : tie.Need-both-have-requires
 both-have-requires c κs = search needs
@@ -23,31 +24,45 @@ returns-2 : tie.Need-returns-2
 returns-2 c =
     let a = c .before .before .before .before .before .before .before .before .before .args in
     let q = c .before .before .before .before .sheets in
-    promise-columns (a .g) (a .elevations .now) (a .ponds .now) (a .level .now) (a .cells .now) (a .volume .now) (a .work .now) (q .result) (q .ensures)
+    promise-columns (a .g) (a .elevations .now) (a .ponds .now) (a .level .now) (a .cells .now) (a .volume .now) (a .work .now)
+    (q .result) (q .ensures)
     (c .before .before .if1 .left) (says-no (c .before .both-have .ensures) (c .if2 .taken))
 
 has-room-requires : tie.Need-has-room-requires
 has-room-requires c κs =
     let a = c .before .before .before .before .before .before .before .before .before .args in
     let q = c .before .before .before .before .sheets in
-    let h = cells-few (a .g) (a .elevations .now) (a .ponds .now) (a .level .now) (a .cells .now) (a .volume .now) (a .work .now) (q .result) (q .ensures) (c .before .before .if1 .left) in
+    let h = cells-few (a .g) (a .elevations .now) (a .ponds .now) (a .level .now) (a .cells .now) (a .volume .now) (a .work .now)
+    (q .result) (q .ensures) (c .before .before .if1 .left) in
     omega arith
 
 returns-3 : tie.Need-returns-3
 returns-3 c =
     let a = c .before .before .before .before .before .before .before .before .before .before .before .args in
     let q = c .before .before .before .before .before .before .sheets in
-    promise-room (a .g) (a .elevations .now) (a .ponds .now) (a .level .now) (a .cells .now) (a .volume .now) (a .work .now) (q .result) (q .ensures)
-    (c .before .before .before .before .if1 .left) (says-yes (c .before .before .before .both-have .ensures) (c .before .before .if2 .left)) (says-no (c .before .has-room .ensures) (c .if3 .taken))
+    promise-room (a .g) (a .elevations .now) (a .ponds .now) (a .level .now) (a .cells .now) (a .volume .now) (a .work .now) (q .result)
+    (q .ensures)
+    (c .before .before .before .before .if1 .left)
+    (says-yes (c .before .before .before .both-have .ensures) (c .before .before .if2 .left))
+    (says-no (c .before .has-room .ensures) (c .if3 .taken))
 
 settle-requires : tie.Need-settle-requires
 settle-requires c κs =
-    let a = c .before .before .before .before .before .before .before .before .before .before .before .before .before .before .before .before .args in
-    let q = c .before .before .before .before .before .before .before .before .before .before .before .sheets in
-    let z = c .before .before .before .before .before .before .before .before .before .if1 .left in
-    let y = says-yes (c .before .before .before .before .before .before .before .before .both-have .ensures) (c .before .before .before .before .before .before .before .if2 .left) in
-    let r = says-yes (c .before .before .before .before .before .before .has-room .ensures) (c .before .before .before .before .before .if3 .left) in
-    (sizes (a .g) (a .elevations .now) (a .ponds .now) (a .level .now) (a .cells .now) (a .volume .now) (a .work .now) (q .result) (q .ensures) z y r, (ponds-long (a .g) (a .elevations .now) (a .ponds .now) (a .level .now) (a .cells .now) (a .volume .now) (a .work .now) (q .result) (q .ensures) z y, one-length (a .g) (a .elevations .now) (a .ponds .now) (a .level .now) (a .cells .now) (a .volume .now) (a .work .now) (q .result) (q .ensures) z y))
+    let b = c .before .before .before .before .before in
+    let a = b .before .before .before .before .before .before .before .before .before .before .before .args in
+    let q = b .before .before .before .before .before .before .sheets in
+    let z = b .before .before .before .before .if1 .left in
+    let y = says-yes (b .before .before .before .both-have .ensures) (b .before .before .if2 .left) in
+    let r = says-yes (b .before .has-room .ensures) (b .if3 .left) in (
+      sizes (a .g) (a .elevations .now) (a .ponds .now) (a .level .now) (a .cells .now) (a .volume .now) (a .work .now) (q .result)
+          (q .ensures) z y r,
+      (
+        ponds-long (a .g) (a .elevations .now) (a .ponds .now) (a .level .now) (a .cells .now) (a .volume .now)
+            (a .work .now) (q .result) (q .ensures) z y,
+        one-length (a .g) (a .elevations .now) (a .ponds .now) (a .level .now) (a .cells .now)
+            (a .volume .now) (a .work .now) (q .result) (q .ensures) z y,
+      ),
+    )
 
 same-length : tie.Need-same-length
 same-length c = search needs
@@ -73,7 +88,8 @@ returns-4 c =
     let y = says-yes (b .before .before .before .both-have .ensures) (b .before .before .if2 .left) in
     let r = says-yes (b .before .has-room .ensures) (b .if3 .left) in
     let t = c .before .before .before .before .before .before .before .before .before .settle in
-    promise-settled (a .g) (a .elevations .now) (a .ponds .now) (a .level .now) (a .cells .now) (a .volume .now) (a .work .now) (q .result) (q .ensures) z y r (t .ensures) (t .kept .1 .1 .1 .1 .1 .1 .0)
+    promise-settled (a .g) (a .elevations .now) (a .ponds .now) (a .level .now) (a .cells .now) (a .volume .now) (a .work .now)
+    (q .result) (q .ensures) z y r (t .ensures) (t .kept .1 .1 .1 .1 .1 .1 .0)
 
 pub ponds-spec : {M : Type 1} → statement M
 ponds-spec =
