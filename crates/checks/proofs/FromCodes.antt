@@ -16,7 +16,7 @@ use Rattle.grid.specs.Checks.{accepted, refusal, askSheets, askWork, askCodes, 
 use Rattle.grid.specs.Promises.{resultOf, WorkBuffer}
 use Rattle.grid_laws.proofs.Tests.{cond-true, cond-false}
 use Rattle.checks.specs.Sizes.{Fits}
-use Rattle.checks.proofs.Gate.{Gate, passed, answered-no, answered-yes, is-accepted}
+use Rattle.checks.proofs.Gate.{Gate, kept, passed, answered-no, answered-yes, is-accepted}
 use Rattle.checks.proofs.Asked.{Sized, check-gate, one-input}
 use Rattle.checks.proofs.Questions.{bad-≤, endless-≤, codes-bad, codes-endless, codes-yes}
 
@@ -49,7 +49,7 @@ module _ (g : Grid) (codes k₀ w₀ : List ℕ) (r : Answer)
   refused-promise {made} n =
       record {
         answer = answered-no before-11 answered n (askCodes g codes accepted);
-        result = sym (cond-false made k₀ (ne-eqb (r .number) 0 n));
+        result = kept n made;
         work = record { same-length = refl; untouched = λ l h. refl };
       }
 

@@ -1,10 +1,12 @@
 -- A gate is what is answered, given what is asked later. Either every question of it is answered by yes, and then what is asked later is
 -- the answer; or a no stands, whatever is asked later. Gates compose, so that a call's questions are one expression.
 use mathlib.Core.Path.{_≡_, sym, _∙_, ap}
-use mathlib.Core.Bool.{Bool, true, false}
+use mathlib.Core.Bool.{Bool, true, false, cond}
 use mathlib.Core.Logic.{_⊎_, inl, inr}
 use Prim.Native.Nat.{ℕ, _<_}
 use native.Mathlib.Omega.{arith}
+use lib.Dec.{eqb}
+use borrow.Author.Tests.{ne-eqb}
 use Rattle.grid.specs.declared.Answer.{Answer}
 use Rattle.grid.specs.Checks.{refusal, accepted, ask}
 use Rattle.grid_laws.proofs.Tests.{test, cond-true, cond-false}
@@ -52,6 +54,10 @@ both {t = t} (inr f) _ =
 pub weaken : {gate : Answer → Answer} {A B : Type 0} → (A → B) → Gate gate A → Gate gate B
 weaken f (inl p) = inl (record { then = p .then; fact = f (p .fact) })
 weaken f (inr n) = inr n
+
+-- a no leaves a result as it is
+pub kept : {A : Type 0} {number : ℕ} {y : A} → (number ≡ 0 → ⊥) → (x : A) → y ≡ cond (eqb number 0) x y
+kept {number = number} {y = y} n x = sym (cond-false x y (ne-eqb number 0 n))
 
 -- by the number that a gate answered
 module _ {gate : Answer → Answer} {Fact : Type 0} (is : Gate gate Fact) {r : Answer} (asked : r ≡ gate accepted) where

@@ -16,7 +16,7 @@ use Rattle.grid.specs.Checks.{refusal, accepted, askSheets, askWork, directions
 use Rattle.grid.specs.Promises.{DirectionsPromise}
 use Rattle.grid_laws.proofs.Tests.{cond-true, cond-false}
 use Rattle.grid_laws.proofs.Below.{first-≤}
-use Rattle.checks.proofs.Gate.{Gate, passed, answered-no, is-accepted, next-no, next-yes}
+use Rattle.checks.proofs.Gate.{Gate, kept, passed, answered-no, is-accepted, next-no, next-yes}
 use Rattle.checks.proofs.Asked.{Sized, check-gate, one-input}
 
 unlevelled-≤ : (g : Grid) (e : List ℤ) → firstUnlevelled g e ≤ size g
@@ -39,7 +39,7 @@ module _ (g : Grid) (e : List ℤ) (c₀ w₀ : List ℕ) (r : Answer)
   refused-promise n =
       record {
         answer = answered-no before-10 answered n _;
-        result = sym (cond-false (directions g e) c₀ (ne-eqb (r .number) 0 n));
+        result = kept n (directions g e);
         work = record { same-length = refl; untouched = λ l h. refl };
       }
 

@@ -1,6 +1,6 @@
 -- The promise of the one call, from the answer to questions 5 to 9 and the four lists of the inner part.
 use mathlib.Core.Path.{_≡_, refl, sym, _∙_}
-use mathlib.Core.Bool.{true, false}
+use mathlib.Core.Bool.{true}
 use mathlib.Core.List.{List, [], _∷_}
 use Prim.Native.Nat.{ℕ}
 use native.Mathlib.Omega.{arith}
@@ -15,17 +15,14 @@ use Rattle.grid.specs.Routes as R
 use Rattle.grid.specs.Checks.{accepted, isAccepted, askSheets, askWork, drainCheck}
 use Rattle.grid.specs.Guarantee.{Guarantee}
 use Rattle.grid.specs.Promises.{DrainPromise}
-use Rattle.grid_laws.proofs.Tests.{T-true, true-false, cond-true, cond-false}
-use Rattle.checks.proofs.Gate.{passed}
+use Rattle.grid_laws.proofs.Tests.{T-true, true-false, cond-true}
+use Rattle.checks.proofs.Gate.{kept, passed}
 use Rattle.checks.proofs.Asked.{check-gate, four-results}
 use Rattle.guarantee_laws.proofs.OneCall.{guaranteed}
 use Rattle.drainage.specs.Results.{Measured, Results}
 
 pub accepts : (r : Answer) → r .number ≡ 0 → isAccepted r ≡ true
 accepts r z = eq-eqb (r .number) 0 z
-
-pub refuses : (r : Answer) → (r .number ≡ 0 → ⊥) → isAccepted r ≡ false
-refuses r z = ne-eqb (r .number) 0 z
 
 -- what `check` answers for the one call
 abbrev pub asked : Grid → (elevations filled codes counts labels work : ℕ) → Answer
@@ -57,20 +54,19 @@ module _ (g : Grid) (e f₀ : List ℤ) (k₀ a₀ l₀ w₀ : List ℕ) (r : An
   -- a no: every list as at entry
   pub promise-of-no : (r .number ≡ 0 → ⊥) → DrainPromise g e f₀ f₀ k₀ k₀ a₀ a₀ l₀ l₀ w₀ w₀ r
   promise-of-no n =
-      let b = refuses r n in
       record {
         answer = is-drain-check g (length e) (length f₀) (length k₀) (length a₀) (length l₀) (length w₀) r answered;
-        filled = sym (cond-false (F.filled g e) f₀ b);
-        codes = sym (cond-false (D.directions g (F.filled g e)) k₀ b);
-        counts = sym (cond-false (R.counts g (D.directions g (F.filled g e))) a₀ b);
-        labels = sym (cond-false (R.labels g (D.directions g (F.filled g e))) l₀ b);
+        filled = kept n (F.filled g e);
+        codes = kept n (D.directions g (F.filled g e));
+        counts = kept n (R.counts g (D.directions g (F.filled g e)));
+        labels = kept n (R.labels g (D.directions g (F.filled g e)));
         work = record { same-length = refl; untouched = λ _ _. refl };
-        demand3 = λ t. true-false (T-true (isAccepted r) t) b;
+        demand3 = λ t. true-false (T-true (isAccepted r) t) (ne-eqb (r .number) 0 n);
       }
 
   -- a yes: the four results, and demand 3 about them
   module _ (z : r .number ≡ 0) (f₁ : List ℤ) (k₁ a₁ l₁ w₁ : List ℕ) (results : Results g e f₁ k₁ a₁ l₁)
-      (kept : length w₁ ≡ length w₀) where
+      (same : length w₁ ≡ length w₀) where
     demanded : Guarantee g e f₁ k₁ a₁ l₁
     demanded =
         let h = measured g (length e) (length f₀) (length k₀) (length a₀) (length l₀) (length w₀) r answered z in
@@ -86,6 +82,6 @@ module _ (g : Grid) (e f₀ : List ℤ) (k₀ a₀ l₀ w₀ : List ℕ) (r : An
           codes = results .codes ∙ sym (cond-true (D.directions g (F.filled g e)) k₀ b);
           counts = results .counts ∙ sym (cond-true (R.counts g (D.directions g (F.filled g e))) a₀ b);
           labels = results .labels ∙ sym (cond-true (R.labels g (D.directions g (F.filled g e))) l₀ b);
-          work = record { same-length = kept; untouched = λ low high. let q : ⊥ = omega arith in absurd q };
+          work = record { same-length = same; untouched = λ low high. let q : ⊥ = omega arith in absurd q };
           demand3 = λ t. demanded;
         }

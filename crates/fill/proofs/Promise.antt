@@ -6,15 +6,15 @@ use Prim.Native.Nat.{ℕ, _*_, _^_, _≤_, _<_}
 use native.Mathlib.Omega.{arith}
 use lib.ListN.{length}
 use lib.IntN.{ℤ}
-use borrow.Author.Tests.{eq-eqb, ne-eqb}
+use borrow.Author.Tests.{eq-eqb}
 use Rattle.grid.specs.declared.Grid.{Grid}
 use Rattle.grid.specs.declared.Answer.{Answer}
 use Rattle.grid.specs.Sheet.{size}
 use Rattle.grid.specs.Fill.{filled}
 use Rattle.grid.specs.Checks.{accepted, askSheets, askWork, fillCheck}
 use Rattle.grid.specs.Promises.{FillPromise}
-use Rattle.grid_laws.proofs.Tests.{cond-true, cond-false}
-use Rattle.checks.proofs.Gate.{passed}
+use Rattle.grid_laws.proofs.Tests.{cond-true}
+use Rattle.checks.proofs.Gate.{kept, passed}
 use Rattle.checks.proofs.Asked.{check-gate, one-input}
 
 module _ (g : Grid) (e f₀ : List ℤ) (w₀ : List ℕ) (r : Answer)
@@ -28,7 +28,7 @@ module _ (g : Grid) (e f₀ : List ℤ) (w₀ : List ℕ) (r : Answer)
   refused-promise n =
       record {
         answer = answer;
-        result = sym (cond-false (filled g e) f₀ (ne-eqb (r .number) 0 n));
+        result = kept n (filled g e);
         work = record { same-length = refl; untouched = λ l h. refl };
       }
 

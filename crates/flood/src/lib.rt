@@ -1,8 +1,7 @@
 // The flood of document 01's "Fill", in linear time: through the cells in order of key; a cell that is not reached, and is an outlet or
 // beside a reached cell, is reached at its own key, and so is what lies no higher beside it, and beside that, through the queue of waiting
-// cells. "the queue of waiting cells lies in the second half of the lent work buffer": `reach` lends that half on to `push`. Proved by the
-// state in flood_laws: `Between` two cells of the order, `During` the emptying of the queue. Each function says what it makes of that
-// state.
+// cells in the second half of the work buffer (`queue`). Proved by the state in flood_laws: `Between` two cells of the order, `During` the
+// emptying of the queue. Each function says what it makes of that state.
 use grid::Grid;
 ghost use mathlib.Core.Path.{_≡_};
 ghost use mathlib.Core.Bool.{true, false};
@@ -34,17 +33,6 @@ fn wanted(n: usize, v: u32, m: usize, work: &[u32], half: usize) -> bool
     true
 }
 
-// Puts a cell at the end of the queue.
-fn push(queue: &mut [u32], len: usize, m: usize) -> usize
-    requires { ⌜ len < length (now queue) ⌝ }
-    requires { ⌜ m < 2 ^ 24 ⌝ }
-    ensures { λ r. ⌜ r ≡ len + 1 ⌝ }
-    ensures { λ r. ⌜ now (queue .exit) ≡ set (now (queue .entry)) len m ⌝ }
-{
-    queue[len] = m as u32;
-    len + 1
-}
-
 // Reaches the cell `m` at the level `v`, and queues it.
 fn reach(n: usize, half: usize, v: u32, len: usize, m: usize, work: &mut [u32]) -> usize
     requires { ⌜ n < 2 ^ 24 ⌝ }
@@ -58,8 +46,7 @@ fn reach(n: usize, half: usize, v: u32, len: usize, m: usize, work: &mut [u32]) 
     ensures { λ r. ⌜ now (work .exit) ≡ set (set (now (work .entry)) m (getD (now (work .entry)) m 0 + v * 65536)) (half + len) m ⌝ }
 {
     let word = work[m];
-    work[m] = word + v * 65536;
-    push(&mut work[half..], len, m)
+    queue::put(half, len, m, m, word + v * 65536, work)
 }
 
 // Reaches the cell `m` if it is wanted.

@@ -1,39 +1,16 @@
 // Joined cells (document 02, "joined as neighbours"): one search in linear time over marks in the work buffer. A mark of 1 says that a
 // cell is of the set, `value` that it is joined; from the joined cells, which wait in a queue, each cell of mark 1 beside them is joined
-// too. The marks stand from `base` on, the queue from `half` on: "the queue of waiting cells lies in the second half of the lent work
-// buffer". Proved by the state `Searching` of join_laws: no step changes what the search comes to.
+// too. The marks stand from `base` on, the queue from `half` on (`queue`). Proved by the state `Searching` of join_laws: no step changes
+// what the search comes to.
 use grid::Grid;
 ghost use mathlib.Core.Path.{_≡_};
-ghost use Prim.Native.Nat.{_+_, _/_, _%_, _<_, _≤_, _^_};
-ghost use lib.ListN.{length, getD, set};
+ghost use Prim.Native.Nat.{_+_, _/_, _%_, _<_, _≤_};
+ghost use lib.ListN.{length, getD};
 ghost use Rattle.grid.specs.Sheet.{size};
 ghost use Rattle.cells.specs.Steps.{Inner, Offsets};
 ghost use Rattle.join_laws.specs.Search.{partOf, Parts, joinedMarks, Searching, Spreading, GoesOn, Touched};
 
-// Puts a cell at the end of the queue.
-fn push(queue: &mut [u32], len: usize, m: usize) -> usize
-    requires { ⌜ len < length (now queue) ⌝ }
-    requires { ⌜ m < 2 ^ 24 ⌝ }
-    ensures { λ r. ⌜ r ≡ len + 1 ⌝ }
-    ensures { λ r. ⌜ now (queue .exit) ≡ set (now (queue .entry)) len m ⌝ }
-{
-    queue[len] = m as u32;
-    len + 1
-}
-
-// Marks the cell `m`, and queues it.
-pub fn take(half: usize, base: usize, value: u32, len: usize, m: usize, work: &mut [u32]) -> usize
-    requires { ⌜ m < 2 ^ 24 ⌝ }
-    requires { ⌜ base + m < length (now work) ⌝ }
-    requires { ⌜ half + len < length (now work) ⌝ }
-    ensures { λ r. ⌜ r ≡ len + 1 ⌝ }
-    ensures { λ r. ⌜ now (work .exit) ≡ set (set (now (work .entry)) (base + m) value) (half + len) m ⌝ }
-{
-    work[base + m] = value;
-    push(&mut work[half..], len, m)
-}
-
-// The same if it is of the set and not joined.
+// Marks the cell `m` and queues it if it is of the set and not joined.
 fn touch(
     n: usize,
     half: usize,
@@ -48,10 +25,11 @@ fn touch(
     requires { ⌜ (getD (now work) (base + m) 0 ≡ 1 → len < n) ⌝ }
     ensures { λ r. ⌜ Touched n base half value (now (work .entry)) (now (work .exit)) len m r ⌝ }
 {
-    if work[base + m] != 1 {
+    let place = base + m;
+    if work[place] != 1 {
         return len;
     }
-    take(half, base, value, len, m, work)
+    queue::put(half, len, m, place, value, work)
 }
 
 // The same for what may lie off the sheet.

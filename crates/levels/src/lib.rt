@@ -1,44 +1,21 @@
 // Levels (document 01, "Directions"): how far each cell of a flat is from a cell of level 0, in steps to equal neighbours. Given the words
 // of the cells of level 0 it finds all others in linear time, breadth first: one look at each cell for level 1, then the queue, whose
-// cells stand by rising level, so that a cell is marked by the lowest of its equal neighbours. It is "the queue of waiting cells" that
-// "lies in the second half of the lent work buffer", lent on as its tail. A data cell that is not at level 0 is no outlet, so it lies
-// within the border, and its neighbours at fixed offsets. Proved by the certificate of `flow_laws`: each loop keeps the state `Searching`.
+// cells stand by rising level, so that a cell is marked by the lowest of its equal neighbours. It lies in the second half of the work
+// buffer (`queue`). A data cell that is not at level 0 is no outlet, so it lies within the border, and its neighbours at fixed offsets.
+// Proved by the certificate of `flow_laws`: each loop keeps the state `Searching`.
 use cells::beside;
 use cells::key;
 use grid::Grid;
 ghost use mathlib.Core.Path.{_≡_};
 ghost use mathlib.Core.Bool.{true, false, cond};
 ghost use Prim.Native.Nat.{ℕ, _+_, _*_, _/_, _%_, _<_, _≤_, _^_};
-ghost use lib.ListN.{length, getD, set};
+ghost use lib.ListN.{length, getD};
 ghost use Rattle.grid.specs.Sheet.{size, at, neighbour};
 ghost use Rattle.grid.specs.Directions.{isEqual};
 ghost use Rattle.cells.specs.Keys.{levelOf};
 ghost use Rattle.cells.specs.Steps.{Inner, Offsets};
 ghost use Rattle.flow_laws.specs.Words.{levelIn, Seeded, Searching, Joining, Levelled};
 ghost use Rattle.levels.specs.Touched.{Touched};
-
-// Puts a cell at the end of the queue.
-fn push(queue: &mut [u32], tail: usize, m: usize) -> usize
-    requires { ⌜ tail < length (now queue) ⌝ }
-    requires { ⌜ m < 2 ^ 24 ⌝ }
-    ensures { λ r. ⌜ r ≡ tail + 1 ⌝ }
-    ensures { λ r. ⌜ now (queue .exit) ≡ set (now (queue .entry)) tail m ⌝ }
-{
-    queue[tail] = m as u32;
-    tail + 1
-}
-
-// Gives the cell `m` a word, and queues it.
-fn mark(half: usize, tail: usize, m: usize, word: u32, work: &mut [u32]) -> usize
-    requires { ⌜ m < 2 ^ 24 ⌝ }
-    requires { ⌜ m < length (now work) ⌝ }
-    requires { ⌜ half + tail < length (now work) ⌝ }
-    ensures { λ r. ⌜ r ≡ tail + 1 ⌝ }
-    ensures { λ r. ⌜ now (work .exit) ≡ set (set (now (work .entry)) m word) (half + tail) m ⌝ }
-{
-    work[m] = word;
-    push(&mut work[half..], tail, m)
-}
 
 // Marks and queues the cell `m` if it has no word.
 fn touch(half: usize, word: u32, tail: usize, m: usize, work: &mut [u32]) -> usize
@@ -50,7 +27,7 @@ fn touch(half: usize, word: u32, tail: usize, m: usize, work: &mut [u32]) -> usi
     if work[m] != 0 {
         return tail;
     }
-    mark(half, tail, m, word, work)
+    queue::put(half, tail, m, m, word, work)
 }
 
 // Gives the next level to the equal neighbours of the queue's cell at `head` that have none. A cell without a drop has no lower neighbour,
@@ -206,7 +183,7 @@ fn join(
     if beside_level_zero(g, offsets, elevations, cell, k, work) >= 8 {
         return tail;
     }
-    mark(half, tail, cell, 256, work)
+    queue::put(half, tail, cell, cell, 256, work)
 }
 
 // Finds the cells of level 1; how many there are.

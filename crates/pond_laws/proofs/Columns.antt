@@ -1,12 +1,10 @@
 -- The columns at the end of the scan are those of the promise.
-use mathlib.Core.Path.{_≡_, refl, sym, _∙_, ap, subst}
-use mathlib.Core.List.{List, [], _∷_, _++_}
-use Prim.Native.Nat.{ℕ, zero, suc, _+_, _-_, _≤_, _<_}
+use mathlib.Core.Path.{_≡_, sym, _∙_}
+use mathlib.Core.List.{List, _++_}
+use Prim.Native.Nat.{ℕ, _+_, _≤_, _<_}
 use native.Mathlib.Omega.{arith}
-use native.Mathlib.Decide.{decLt}
 use lib.Dec.{eqb}
-use lib.ListN.{length, getD, drop, length-append, length-drop, List·getD-append}
-use lib.Seq.{ext-getD, getD-append-add, getD-drop}
+use lib.ListN.{length, getD, drop, List·getD-append}
 use lib.IntN.{ℤ, pos}
 use borrow.Author.Tests.{eqb-true, eq-eqb}
 use Rattle.grid.specs.declared.Grid.{Grid}
@@ -14,17 +12,12 @@ use Rattle.grid.specs.Below.{table, sumBelow, firstBelow}
 use Rattle.grid.specs.Sheet.{size, void, at}
 use Rattle.grid.specs.Fill.{filled}
 use Rattle.grid.specs.Ponds.{ponds, pondCount, depth, pondLevel, pondCells, pondVolume}
+use Rattle.grid_laws.proofs.Lists.{any-default, overwritten}
 use Rattle.grid_laws.proofs.Below.{at-table, length-table, sum-ext, first-found, first-least}
 use Rattle.grid_laws.proofs.Cells.{InRange}
 use Rattle.pond_laws.specs.Gathered.{Column, Gathered}
 use Rattle.pond_laws.proofs.Level.{same-number, some-cell, number-≤}
 use Rattle.pond_laws.proofs.Total.{total}
-
--- an element that is there has no use of the default
-any-default : {A : Type 0} (l : List A) (i : ℕ) (d b : A) → i < length l → getD l i d ≡ getD l i b
-any-default [] i d b h = let z : ⊥ = omega arith in absurd z
-any-default (x ∷ l) zero d b h = refl
-any-default (x ∷ l) (suc i) d b h = any-default l i d b (omega arith)
 
 -- ---- one column: its values first, and the rest as it was
 module _ {A : Type 0} (d : A) (count : ℕ) (value : ℕ → A) where
@@ -33,31 +26,11 @@ module _ {A : Type 0} (d : A) (count : ℕ) (value : ℕ → A) where
       List·getD-append (table count value) (drop count old) d k (let q = length-table count value in omega arith)
       ∙ at-table count value k d h
 
-  column-back : (old : List A) (k : ℕ) → getD (table count value ++ drop count old) (count + k) d ≡ getD old (count + k) d
-  column-back old k =
-      ap (λ (x : ℕ). getD (table count value ++ drop count old) (x + k) d) (sym (length-table count value))
-      ∙ getD-append-add (table count value) (drop count old) k d
-      ∙ getD-drop count old k d
-
   pub column-whole : {old new : List A} → Column d count old new → count ≤ length old →
       ((k : ℕ) → k < count → getD new k d ≡ value k) → new ≡ table count value ++ drop count old
-  column-whole {old} {new} C h v =
-      ext-getD d new (table count value ++ drop count old) same-length (λ i l. at-place i (decLt i count))
-    where
-      same-length : length new ≡ length (table count value ++ drop count old)
-      same-length =
-          let a = C .same-length in
-          let b = length-append (table count value) (drop count old) in
-          let r = length-drop count old in
-          let q = length-table count value in
-          omega arith
-
-      at-place : (i : ℕ) → Dec (i < count) → getD new i d ≡ getD (table count value ++ drop count old) i d
-      at-place i (yes l) = v i l ∙ sym (column-front old i l)
-      at-place i (no l) =
-          let s : count + (i - count) ≡ i = omega arith in
-          subst (λ (j : ℕ). getD new j d ≡ getD (table count value ++ drop count old) j d) s
-          (C .past (count + (i - count)) (omega arith) ∙ sym (column-back old (i - count)))
+  column-whole {old} C h v =
+      overwritten d (table count value) old (length-table count value) h (C .same-length)
+      (λ k l. v k l ∙ sym (at-table count value k d l)) (C .past)
 
 module _ (g : Grid) (e : List ℤ) (long : length e ≡ size g) (range : InRange e) where
   abbrev f : List ℤ

@@ -18,7 +18,7 @@ use Rattle.grid.specs.Sheet.{size, void, at}
 use Rattle.grid.specs.Fill.{filled}
 use Rattle.grid.specs.Ponds.{depth, ponds}
 use Rattle.grid_laws.proofs.Tests.{cond-true, cond-false}
-use Rattle.grid_laws.proofs.Below.{sum-suc, sum-bound, count-suc, count-≤}
+use Rattle.grid_laws.proofs.Below.{sum-suc, sum-bound, count-≤}
 use Rattle.grid_laws.proofs.Cells.{InRange}
 use Rattle.pond_laws.specs.Gathered.{Column, Gathered}
 use Rattle.pond_laws.proofs.Depth.{depth-small}
@@ -36,34 +36,38 @@ module _ {A : Type 0} (d : A) (count : ℕ) where
         past = λ j l. getD-set-other new k j v d (λ q. omega arith) ∙ C .past j l;
       }
 
--- the sums over the first c cells, for the number k + 1
-module _ (e f : List ℤ) (l : List ℕ) where
-  abbrev cellsTo : ℕ → ℕ → ℕ
-  cellsTo c k = countBelow c (λ d. eqb (getD l d 0) (k + 1))
+-- v added up over those of the first c cells that have the number k + 1: the cells with v = 1, the volume with v the depth
+module _ (l : List ℕ) (v : ℕ → ℕ) where
+  abbrev sumTo : ℕ → ℕ → ℕ
+  sumTo c k = sumBelow c (λ d. cond (eqb (getD l d 0) (k + 1)) (v d) 0)
 
-  abbrev volumeTo : ℕ → ℕ → ℕ
-  volumeTo c k = sumBelow c (λ d. cond (eqb (getD l d 0) (k + 1)) (depth e f d) 0)
+  sum-one : (c k : ℕ) → getD l c 0 ≡ k + 1 → sumTo (c + 1) k ≡ sumTo c k + v c
+  sum-one c k q =
+      rw (add-one c) (sum-suc c (λ d. cond (eqb (getD l d 0) (k + 1)) (v d) 0)
+      ∙ ap (λ (x : ℕ). sumTo c k + x) (cond-true (v c) 0 (eq-eqb (getD l c 0) (k + 1) q)))
 
-  module _ (c k : ℕ) where
-    cells-one : getD l c 0 ≡ k + 1 → cellsTo (c + 1) k ≡ cellsTo c k + 1
-    cells-one q =
-        rw (add-one c) (count-suc c (λ d. eqb (getD l d 0) (k + 1))
-        ∙ ap (λ (x : ℕ). cellsTo c k + x) (cond-true 1 0 (eq-eqb (getD l c 0) (k + 1) q)))
+  sum-still : (c k : ℕ) → (getD l c 0 ≡ k + 1 → ⊥) → sumTo (c + 1) k ≡ sumTo c k
+  sum-still c k n =
+      rw (add-one c) (sum-suc c (λ d. cond (eqb (getD l d 0) (k + 1)) (v d) 0)
+      ∙ ap (λ (x : ℕ). sumTo c k + x) (cond-false (v c) 0 (ne-eqb (getD l c 0) (k + 1) n)) ∙ omega arith)
 
-    cells-still : (getD l c 0 ≡ k + 1 → ⊥) → cellsTo (c + 1) k ≡ cellsTo c k
-    cells-still n =
-        rw (add-one c) (count-suc c (λ d. eqb (getD l d 0) (k + 1))
-        ∙ ap (λ (x : ℕ). cellsTo c k + x) (cond-false 1 0 (ne-eqb (getD l c 0) (k + 1) n)) ∙ omega arith)
-
-    volume-one : getD l c 0 ≡ k + 1 → volumeTo (c + 1) k ≡ volumeTo c k + depth e f c
-    volume-one q =
-        rw (add-one c) (sum-suc c (λ d. cond (eqb (getD l d 0) (k + 1)) (depth e f d) 0)
-        ∙ ap (λ (x : ℕ). volumeTo c k + x) (cond-true (depth e f c) 0 (eq-eqb (getD l c 0) (k + 1) q)))
-
-    volume-still : (getD l c 0 ≡ k + 1 → ⊥) → volumeTo (c + 1) k ≡ volumeTo c k
-    volume-still n =
-        rw (add-one c) (sum-suc c (λ d. cond (eqb (getD l d 0) (k + 1)) (depth e f d) 0)
-        ∙ ap (λ (x : ℕ). volumeTo c k + x) (cond-false (depth e f c) 0 (ne-eqb (getD l c 0) (k + 1) n)) ∙ omega arith)
+  -- the cell c is added at its number
+  sums-more : {count : ℕ} (sums : List ℕ) (c k : ℕ)
+      → getD l c 0 ≡ k + 1
+      → k < length sums
+      → ((j : ℕ) → j < count → getD sums j 0 ≡ sumTo c j)
+      → (j : ℕ)
+      → j < count
+      → getD (set sums k (getD sums k 0 + v c)) j 0 ≡ sumTo (c + 1) j
+  sums-more sums c k numbered on are j h = go (ℕ-discrete j k)
+    where
+      go : Dec (j ≡ k) → getD (set sums k (getD sums k 0 + v c)) j 0 ≡ sumTo (c + 1) j
+      go (yes s) =
+          subst (λ (x : ℕ). getD (set sums x (getD sums x 0 + v c)) j 0 ≡ sumTo (c + 1) j) s
+          (getD-set-same sums j (getD sums j 0 + v c) 0 (omega arith) ∙ ap (λ (x : ℕ). x + v c) (are j h)
+          ∙ sym (sum-one c j (omega arith)))
+      go (no n) =
+          getD-set-other sums k j (getD sums k 0 + v c) 0 n ∙ are j h ∙ sym (sum-still c j (λ q. n (omega arith)))
 
 module _ (e f : List ℤ) (l : List ℕ) (count : ℕ) where
   pub gather-none : (level : List ℤ) {cells₀ cells volume₀ volume : List ℕ} → Column 0 count cells₀ cells → Column 0 count volume₀ volume →
@@ -86,14 +90,15 @@ module _ (e f : List ℤ) (l : List ℕ) (count : ℕ) where
 module _ (e f : List ℤ) (l : List ℕ) (count : ℕ) {level₀ level : List ℤ} {cells₀ cells volume₀ volume : List ℕ} where
   pub gather-dry : (c : ℕ) → getD l c 0 ≡ 0 → Gathered e f l count c level₀ level cells₀ cells volume₀ volume →
       Gathered e f l count (c + 1) level₀ level cells₀ cells volume₀ volume
+  unfolding countBelow
   gather-dry c z G =
       record {
         level-column = G .level-column;
         cells-column = G .cells-column;
         volume-column = G .volume-column;
         levels = λ d k h q. G .levels d k (before d k h q) q;
-        counts = λ k h. G .counts k h ∙ sym (cells-still e f l c k (λ q. omega arith));
-        volumes = λ k h. G .volumes k h ∙ sym (volume-still e f l c k (λ q. omega arith));
+        counts = λ k h. G .counts k h ∙ sym (sum-still l (λ d. 1) c k (λ q. omega arith));
+        volumes = λ k h. G .volumes k h ∙ sym (sum-still l (depth e f) c k (λ q. omega arith));
       }
     where
       before : (d k : ℕ) → d < c + 1 → getD l d 0 ≡ k + 1 → d < c
@@ -130,32 +135,17 @@ module _ (g : Grid) (e : List ℤ) (long : length e ≡ size g) (range : InRange
         before : (d ≡ c → ⊥) → d < c + 1 → d < c
         before m h = omega arith
 
-    counts : (j : ℕ) → j < count → Dec (j ≡ k) → getD (set cells k (getD cells k 0 + 1)) j 0 ≡ cellsTo e f l (c + 1) j
-    counts j h (yes s) =
-        subst (λ (x : ℕ). getD (set cells k (getD cells k 0 + 1)) x 0 ≡ cellsTo e f l (c + 1) x) (sym s)
-        (getD-set-same cells k (getD cells k 0 + 1) 0 in-cells ∙ ap (λ (x : ℕ). x + 1) (G .counts k few)
-        ∙ sym (cells-one e f l c k numbered))
-    counts j h (no n) =
-        getD-set-other cells k j (getD cells k 0 + 1) 0 n ∙ G .counts j h ∙ sym (cells-still e f l c j (other j n))
-
-    volumes : (j : ℕ) → j < count → Dec (j ≡ k) → getD (set volume k (getD volume k 0 + depth e f c)) j 0 ≡ volumeTo e f l (c + 1) j
-    volumes j h (yes s) =
-        subst (λ (x : ℕ). getD (set volume k (getD volume k 0 + depth e f c)) x 0 ≡ volumeTo e f l (c + 1) x) (sym s)
-        (getD-set-same volume k (getD volume k 0 + depth e f c) 0 in-volume ∙ ap (λ (x : ℕ). x + depth e f c) (G .volumes k few)
-        ∙ sym (volume-one e f l c k numbered))
-    volumes j h (no n) =
-        getD-set-other volume k j (getD volume k 0 + depth e f c) 0 n ∙ G .volumes j h ∙ sym (volume-still e f l c j (other j n))
-
     pub gather-wet : Gathered e (filled g e) (ponds g e) count (c + 1) level₀ (set level k (at (filled g e) c)) cells₀
         (set cells k (getD cells k 0 + 1)) volume₀ (set volume k (getD volume k 0 + depth e (filled g e) c))
+    unfolding countBelow
     gather-wet =
         record {
           level-column = column-set (pos 0) count k (at f c) few (G .level-column);
           cells-column = column-set 0 count k (getD cells k 0 + 1) few (G .cells-column);
           volume-column = column-set 0 count k (getD volume k 0 + depth e f c) few (G .volume-column);
           levels = λ d j h q. levels d j h q (ℕ-discrete j k) (ℕ-discrete d c);
-          counts = λ j h. counts j h (ℕ-discrete j k);
-          volumes = λ j h. volumes j h (ℕ-discrete j k);
+          counts = sums-more l (λ d. 1) cells c k numbered in-cells (G .counts);
+          volumes = sums-more l (depth e f) volume c k numbered in-volume (G .volumes);
         }
 
   pub volume-bound : (count : ℕ) {level₀ level : List ℤ} {cells₀ cells volume₀ volume : List ℕ} (c k : ℕ) →

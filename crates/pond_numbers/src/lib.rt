@@ -69,7 +69,7 @@ fn number_at(
     if mark_at(g, c, work) != 1 {
         return count;
     }
-    let len = join::take(half, n, count + 2, 0, c, work);
+    let len = queue::put(half, 0, c, n + c, count + 2, work);
     join::join(g, half, n, count + 2, len, offsets, work);
     count + 1
 }

@@ -7,7 +7,7 @@ use native.Mathlib.Omega.{arith}
 use lib.Dec.{T, eqb, leb}
 use lib.ListN.{length, getD}
 use lib.IntN.{ℤ}
-use borrow.Author.Tests.{leb-true, le-leb, lt-leb, eqb-true, ne-eqb}
+use borrow.Author.Tests.{leb-true, le-leb, lt-leb, eqb-true}
 use Rattle.grid.specs.declared.Grid.{Grid}
 use Rattle.grid.specs.declared.Answer.{Answer}
 use Rattle.grid.specs.declared.Counted.{Counted}
@@ -17,7 +17,7 @@ use Rattle.grid.specs.Ponds as P
 use Rattle.grid.specs.Checks.{refusal, accepted, ask, isAccepted, ofCounted, allHave, askSheets, askWork, pondsCheck}
 use Rattle.grid.specs.Promises.{PondsPromise}
 use Rattle.grid_laws.proofs.Tests.{T-true, cond-true, cond-false}
-use Rattle.checks.proofs.Gate.{Gate, one, both, passed, answered-no, next-no, next-yes}
+use Rattle.checks.proofs.Gate.{Gate, one, both, kept, passed, answered-no, next-no, next-yes}
 use Rattle.checks.proofs.Asked.{Sheets, sheets-gate, one-input, all-are}
 use Rattle.pond_laws.specs.Gathered.{Gathered}
 use Rattle.pond_laws.proofs.Level.{same-pond, one-number}
@@ -80,11 +80,11 @@ module _ (g : Grid) (e : List ℤ) (ponds₀ : List ℕ) (level₀ : List ℤ) (
   refusal-promise number place above q =
       record {
         answer = q;
-        count = kept _ 0;
-        ponds = kept _ ponds₀;
-        level = kept _ level₀;
-        cells = kept _ cells₀;
-        volume = kept _ volume₀;
+        count = kept above _;
+        ponds = kept above _;
+        level = kept above _;
+        cells = kept above _;
+        volume = kept above _;
         work = record { same-length = refl; untouched = λ l h. refl };
         one-pond = λ t. none t;
         one-level = λ t. none t;
@@ -93,9 +93,6 @@ module _ (g : Grid) (e : List ℤ) (ponds₀ : List ℕ) (level₀ : List ℤ) (
         no-wrap = λ t. none t;
       }
     where
-      kept : {A : Type 0} (x y : A) → y ≡ cond (eqb number 0) x y
-      kept x y = sym (cond-false x y (ne-eqb number 0 above))
-
       none : {A : Type 0} → T (eqb number 0) → A
       none t = absurd (above (eqb-true number 0 (T-true (eqb number 0) t)))
 

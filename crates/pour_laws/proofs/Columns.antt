@@ -8,15 +8,15 @@ use native.Mathlib.Nat.{div-one, mod-eq-of-lt}
 use native.Mathlib.Omega.{arith}
 use native.Mathlib.Decide.{decLt}
 use lib.Arith.{digits-div, digits-mod}
-use lib.ListN.{length, getD, drop, length-map, length-append, length-drop, List·getD-append}
+use lib.ListN.{length, getD, drop, length-map}
 use borrow.Author.Tests.{le-leb, lt-leb}
-use lib.Seq.{ext-getD, getD-append-add, getD-drop}
 use lib.IntN.{ℤ, pos}
 use Rattle.grid.specs.declared.Grid.{Grid}
 use Rattle.grid.specs.Sheet.{size}
 use Rattle.grid.specs.declared.Counted.{Counted}
 use Rattle.grid.specs.Checks.{refusal, accepted, ask}
 use Rattle.grid.specs.PourPoints.{Entry, pourPoints}
+use Rattle.grid_laws.proofs.Lists.{overwritten}
 use Rattle.cells.specs.Keys.{keyOf, levelOf}
 use Rattle.cells.proofs.Keys.{level-key, key-small}
 use Rattle.pour_laws.specs.Words.{pairOf, rankOf, Fits, Among}
@@ -83,27 +83,6 @@ module _ {A : Type 0} (d : A) (values entry : List A) where
       written i h (no l) =
           let e : done + (i - done) ≡ i = omega arith in
           subst (λ (j : ℕ). getD column₁ j d ≡ getD values j d) e (p .written (i - done) (omega arith) ∙ sym (v (i - done) (omega arith)))
-
-  pub column-end : {done : ℕ} {column : List A} → done ≡ length values → length values ≤ length entry →
-      ColumnTo d values done entry column → column ≡ values ++ drop (length values) entry
-  column-end {done} {column} q h c =
-      ext-getD d column (values ++ drop (length values) entry) same-length (λ i l. at i (decLt i (length values)))
-    where
-      same-length : length column ≡ length (values ++ drop (length values) entry)
-      same-length =
-          let a = c .long in
-          let b = length-append values (drop (length values) entry) in
-          let e = length-drop (length values) entry in
-          omega arith
-
-      at : (i : ℕ) → Dec (i < length values) → getD column i d ≡ getD (values ++ drop (length values) entry) i d
-      at i (yes l) = c .written i (omega arith) ∙ sym (List·getD-append values (drop (length values) entry) d i l)
-      at i (no l) =
-          let e : length values + (i - length values) ≡ i = omega arith in
-          subst (λ (j : ℕ). getD column j d ≡ getD (values ++ drop (length values) entry) j d) e
-          (c .rest (length values + (i - length values)) (omega arith)
-          ∙ sym (getD-drop (length values) entry (i - length values) d)
-          ∙ sym (getD-append-add values (drop (length values) entry) (i - length values) d))
 
 -- ---- one scan more
 module _ (g : Grid) (e : List ℤ) (labels : List ℕ) (long : length e ≡ size g) where
@@ -214,9 +193,8 @@ pub column-whole : {A : Type 0} (d : A) (field : Entry → A) (l : List Entry) {
     → length l ≤ length entry
     → ColumnTo d (map field l) done entry column
     → column ≡ map field l ++ drop (length l) entry
-column-whole d field l {entry} {column} q h c =
-    let e = length-map l field in
-    column-end d (map field l) entry (q ∙ sym e) (omega arith) c ∙ ap (λ (k : ℕ). map field l ++ drop k entry) e
+column-whole d field l {entry} q h c =
+    overwritten d (map field l) entry (length-map l field) h (c .long) (λ i k. c .written i (omega arith)) (λ i k. c .rest i (omega arith))
 
 pub columns-whole : (l : List Entry) {done : ℕ} {s₀ s₁ l₀ l₁ c₀ c₁ : List ℕ} {e₀ e₁ : List ℤ}
     → done ≡ length l

@@ -1,13 +1,11 @@
 -- The questions of Table 6 in order, and the promise at each no and after the last yes.
-use mathlib.Core.Path.{_≡_, sym, _∙_}
-use mathlib.Core.Bool.{true, false, cond}
+use mathlib.Core.Path.{_≡_, _∙_}
+use mathlib.Core.Bool.{true, false}
 use mathlib.Core.List.{List, [], _∷_}
 use Prim.Native.Nat.{ℕ}
 use native.Mathlib.Omega.{arith}
-use lib.Dec.{eqb}
 use lib.ListN.{length}
 use lib.IntN.{ℤ}
-use borrow.Author.Tests.{ne-eqb}
 use Rattle.grid.specs.declared.Grid.{Grid}
 use Rattle.grid.specs.declared.Answer.{Answer}
 use Rattle.grid.specs.declared.Counted.{Counted}
@@ -15,9 +13,8 @@ use Rattle.grid.specs.Sheet.{size}
 use Rattle.grid.specs.Checks.{refusal, accepted, allHave, askSheets, pourPointsCheck}
 use Rattle.grid.specs.PourPoints.{pourPoints}
 use Rattle.grid.specs.Promises.{PourPointsPromise}
-use Rattle.grid_laws.proofs.Tests.{cond-false}
 use Rattle.checks.specs.Sizes.{Fits}
-use Rattle.checks.proofs.Gate.{Gate, passed, answered-no, next-no, next-yes}
+use Rattle.checks.proofs.Gate.{Gate, kept, passed, answered-no, next-no, next-yes}
 use Rattle.checks.proofs.Asked.{Sheets, sheets-gate, all-are}
 use Rattle.pour_laws.specs.Batch.{Scanned}
 use Rattle.pour_laws.specs.Columns.{OneLength, Settled}
@@ -32,10 +29,6 @@ module _ {s l c : List ℕ} {e : List ℤ} where
       record { larger = a .0; elevation = a .1 .0; cell = a .1 .1 .0 }
 
 -- ---- the promise
-
--- a no leaves the columns as they are
-kept : {A : Type 0} (number : ℕ) → (number ≡ 0 → ⊥) → (x y : A) → y ≡ cond (eqb number 0) x y
-kept number above x y = sym (cond-false x y (ne-eqb number 0 above))
 
 module _ (g : Grid) (e : List ℤ) (labels : List ℕ) where
   -- what the columns' 8 and 14 are asked after
@@ -54,11 +47,11 @@ module _ (g : Grid) (e : List ℤ) (labels : List ℕ) {s₀ l₀ c₀ : List �
   refusal-promise number place above q =
       record {
         answer = q;
-        count = kept number above _ 0;
-        smaller = kept number above _ s₀;
-        larger = kept number above _ l₀;
-        elevation = kept number above _ e₀;
-        cell = kept number above _ c₀;
+        count = kept above _;
+        smaller = kept above _;
+        larger = kept above _;
+        elevation = kept above _;
+        cell = kept above _;
       }
 
   module _ (answer : Answer) (is : answer ≡ askSheets g (length e ∷ length labels ∷ []) [] accepted) where

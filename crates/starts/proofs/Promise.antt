@@ -5,7 +5,6 @@ use Prim.Native.Nat.{ℕ, _-_, _*_, _/_, _≤_, _<_}
 use native.Mathlib.Omega.{arith}
 use lib.ListN.{length, take, drop, length-drop}
 use lib.Seq.{length-take-le}
-use borrow.Author.Tests.{ne-eqb}
 use Rattle.grid.specs.declared.Grid.{Grid}
 use Rattle.grid.specs.declared.Answer.{Answer}
 use Rattle.grid.specs.declared.Counted.{Counted}
@@ -14,9 +13,8 @@ use Rattle.grid.specs.Routes.{firstBadCode, firstEndless}
 use Rattle.grid.specs.Starts.{starts, startCount}
 use Rattle.grid.specs.Checks.{accepted, refusal, askSheets, askWork, askCell, askCodes, startsCheck}
 use Rattle.grid.specs.Promises.{StartsPromise}
-use Rattle.grid_laws.proofs.Tests.{cond-false}
 use Rattle.checks.specs.Sizes.{Fits}
-use Rattle.checks.proofs.Gate.{Gate, passed, answered-no, answered-yes}
+use Rattle.checks.proofs.Gate.{Gate, kept, passed, answered-no, answered-yes}
 use Rattle.checks.proofs.Asked.{Sized, check-gate, two-inputs}
 use Rattle.checks.proofs.Questions.{bad-≤, cell-yes, codes-bad, Late, yes-late, cell-late}
 use Rattle.starts.specs.Into.{Started}
@@ -53,8 +51,8 @@ module _ (g : Grid) (codes counts : List ℕ) (threshold : ℕ) (s₀ w₀ : Lis
   refused-promise n =
       record {
         answer = answered-no before-11 answered n (askCodes g codes accepted);
-        count = sym (cond-false (startCount g codes counts threshold) 0 (ne-eqb (r .number) 0 n));
-        result = sym (cond-false (starts g codes counts threshold) s₀ (ne-eqb (r .number) 0 n));
+        count = kept n (startCount g codes counts threshold);
+        result = kept n (starts g codes counts threshold);
         work = record { same-length = refl; untouched = λ l h. refl };
       }
 

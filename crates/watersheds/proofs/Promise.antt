@@ -4,16 +4,14 @@ use mathlib.Core.List.{List, [], _∷_}
 use Prim.Native.Nat.{ℕ, _*_, _≤_}
 use native.Mathlib.Omega.{arith}
 use lib.ListN.{length}
-use borrow.Author.Tests.{ne-eqb}
 use Rattle.grid.specs.declared.Grid.{Grid}
 use Rattle.grid.specs.declared.Answer.{Answer}
 use Rattle.grid.specs.Sheet.{size}
 use Rattle.grid.specs.Routes.{watersheds, firstBadStart}
 use Rattle.grid.specs.Checks.{accepted, askSheets, askWork, watershedsCheck}
 use Rattle.grid.specs.Promises.{resultOf, WatershedsPromise}
-use Rattle.grid_laws.proofs.Tests.{cond-false}
 use Rattle.checks.specs.Sizes.{Fits}
-use Rattle.checks.proofs.Gate.{Gate, passed, answered-no, answered-yes}
+use Rattle.checks.proofs.Gate.{Gate, kept, passed, answered-no, answered-yes}
 use Rattle.checks.proofs.Asked.{Sized, check-gate, two-inputs}
 use Rattle.checks.proofs.Questions.{Late, yes-late, cell-late, codes-late}
 use Rattle.watershed_walk.proofs.Asking.{routesCheck}
@@ -42,7 +40,7 @@ module _ (g : Grid) (codes starts k₀ w₀ : List ℕ) (r : Answer)
   refused-promise n =
       record {
         answer = answered-no before-11 answered n (routesCheck g codes starts);
-        result = sym (cond-false (watersheds g codes starts) k₀ (ne-eqb (r .number) 0 n));
+        result = kept n (watersheds g codes starts);
         work = record { same-length = refl; untouched = λ l h. refl };
       }
 

@@ -83,8 +83,8 @@ returns-3 c =
     joining-alone (a .g) (a .elevations .now) (s .pre .0) (a .half) (a .work .now) (a .cell) (a .tail) (s .pre .1 .1 .1 .1 .0)
     (s .pre .1 .1 .1 .1 .1 .0) (found .beside-level-zero .ensures .1 (c .if3 .taken))
 
-mark-requires : tie.Need-mark-requires
-mark-requires c κs =
+put-requires : tie.Need-put-requires
+put-requires c κs =
     let key = c .before .before .before .before .before in
     let s = start key in
     let a = s .args in
@@ -102,9 +102,9 @@ same-length-2 c = search needs
 
 returns-4 : tie.Need-returns-4
 returns-4 c =
-    let marked = c .before .before in
-    let least = marked .before .before .if3 .left in
-    let found = marked .before .before .before in
+    let queued = c .before .before in
+    let least = queued .before .before .if3 .left in
+    let found = queued .before .before .before in
     let key = found .before .before .before in
     let left = found .before .before .if2 .left in
     let s = start key in
@@ -112,7 +112,7 @@ returns-4 c =
     let p = found .beside-level-zero .ensures .0 least in
     joining-next (a .g) (a .elevations .now) (s .pre .0) (a .half) (a .work .now) (a .cell) (a .tail) (s .pre .1 .1 .1 .1 .0)
     (s .pre .1 .1 .1 .1 .1 .0) (s .pre .1 .1 .0) (s .pre .1 .1 .1 .0) (key .before .before .if1 .left) (is-data key (omega arith))
-    (found .beside-level-zero .result) least (p .0) (p .1) (marked .mark .ensures .0) (marked .mark .ensures .1)
+    (found .beside-level-zero .result) least (p .0) (p .1) (queued .put .ensures .0) (queued .put .ensures .1)
 
 pub join-spec : {M : Type 1} → statement M
 join-spec =
@@ -128,6 +128,6 @@ join-spec =
     beside-level-zero-requires
     same-length
     returns-3
-    mark-requires
+    put-requires
     same-length-2
     returns-4)

@@ -14,8 +14,8 @@ slice-read-if1 c = search needs
 returns : tie.Need-returns
 returns c = inl (refl, refl, let z = c .if1 .taken in omega arith)
 
-mark-requires : tie.Need-mark-requires
-mark-requires c κs =
+put-requires : tie.Need-put-requires
+put-requires c κs =
     let blank = c .before in
     let s = blank .before .before .before in
     (s .pre .0, (s .pre .1 .0, s .pre .1 .1 (blank .if1 .left)))
@@ -25,10 +25,10 @@ same-length c = search needs
 
 returns-2 : tie.Need-returns-2
 returns-2 c =
-    let m = c .before .before .mark in
+    let p = c .before .before .put in
     let blank = c .before .before .before .before in
-    inr (m .ensures .0, m .ensures .1, blank .if1 .left)
+    inr (p .ensures .0, p .ensures .1, blank .if1 .left)
 
 pub touch-spec : {M : Type 1} → statement M
 touch-spec =
-    tie.close (tie.spec mul-if1 slice-read-if1 returns mark-requires same-length returns-2)
+    tie.close (tie.spec mul-if1 slice-read-if1 returns put-requires same-length returns-2)

@@ -24,8 +24,11 @@ returns c =
     passed-by (a .g) (a .elevations .now) (a .work .now) (a .half) (a .c) (a .count) (s .pre .0) (s .pre .1 .0) (s .pre .1 .1 .0)
     (s .pre .1 .1 .1 .1) (λ e. c .if1 .taken (m ∙ e))
 
-add-take : tie.Need-add-take
-add-take c =
+add-put : tie.Need-add-put
+add-put c = search needs
+
+add-put-2 : tie.Need-add-put-2
+add-put-2 c =
     let s = c .before .before .before .before .before in
     let a = s .args in
     let f = s .pre .0 .few in
@@ -33,8 +36,8 @@ add-take c =
     (s .pre .1 .1 .1 .1) in
     omega arith
 
-take-requires : tie.Need-take-requires
-take-requires c κs = search needs
+put-requires : tie.Need-put-requires
+put-requires c κs = search needs
 
 add-join : tie.Need-add-join
 add-join c =
@@ -50,7 +53,7 @@ join-requires c κs =
     let s = c .before .before .before .before .before .before .before .before .before .before in
     let a = s .args in
     let N = s .pre .1 .1 .1 .1 in
-    let t = c .before .before .before .take in
+    let t = c .before .before .before .put in
     let m = c .before .before .before .before .before .before .mark-at .ensures in
     let one = sym m ∙ c .before .before .before .before .before .if1 .left in
     let w = t .last .1 .1 .1 .1 .1 .0 in
@@ -79,7 +82,7 @@ returns-2 c =
     let b = c .before .before .before .before in
     let s = b .before .before .before .before .before .before .before .before .before in
     let a = s .args in
-    let t = b .before .before .take in
+    let t = b .before .before .put in
     let m = b .before .before .before .before .before .mark-at .ensures in
     let one = sym m ∙ b .before .before .before .before .if1 .left in
     let j = c .before .before .join in
@@ -95,8 +98,9 @@ number-at-spec =
     mark-at-requires
     same-length
     returns
-    add-take
-    take-requires
+    add-put
+    add-put-2
+    put-requires
     add-join
     join-requires
     add-result

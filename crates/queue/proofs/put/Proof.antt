@@ -1,3 +1,4 @@
+-- The word at its place, and the cell into the lent tail.
 use mathlib.Core.Path.{_∙_}
 use Prim.Native.Nat.{_-_}
 use native.Mathlib.Omega.{arith}
@@ -5,8 +6,8 @@ use lib.ListN.{length, set, length-set, length-take, length-drop}
 use borrow.Author.Needs.{needs}
 use borrow.Rule.Slice.PartMut.{same-len-mid}
 use Rattle.grid_laws.proofs.Parts.{tail-set}
-use Rattle.levels.proofs.mark.Statement.{statement}
-use Rattle.levels.proofs.mark.Tie as tie
+use Rattle.queue.proofs.put.Statement.{statement}
+use Rattle.queue.proofs.put.Tie as tie
 
 mul-work : tie.Need-mul-work
 mul-work c = search needs
@@ -32,19 +33,19 @@ push-requires c κs = (simp (length-take, length-drop, length-set) (omega arith)
 same-length : tie.Need-same-length
 same-length c =
     let a = c .before .before .before .before .before .args in
-    let stored = set (a .work .now) (a .m) (a .word) in
-    same-len-mid (a .half) (length stored - a .half) stored (c .before .before .push .last .0) (c .before .before .push .kept .0)
-    ∙ length-set (a .work .now) (a .m) (a .word)
+    let stored = set (a .work .now) (a .place) (a .word) in
+    let p = c .before .before .push in
+    same-len-mid (a .half) (length stored - a .half) stored (p .last .0) (p .kept .0) ∙ length-set (a .work .now) (a .place) (a .word)
 
 returns : tie.Need-returns
 returns c =
     let a = c .before .before .before .before .before .args in
+    let stored = set (a .work .now) (a .place) (a .word) in
     let p = c .before .before .push in
-    let stored = set (a .work .now) (a .m) (a .word) in
-    (p .ensures .0, tail-set (a .half) (a .tail) stored (p .last .0) (a .m) (rw length-set (omega arith)) (p .ensures .1))
+    (p .ensures .0, tail-set (a .half) (a .len) stored (p .last .0) (a .m) (rw length-set (omega arith)) (p .ensures .1))
 
-pub mark-spec : {M : Type 1} → statement M
-mark-spec =
+pub put-spec : {M : Type 1} → statement M
+put-spec =
     tie.close
     (tie.spec
     mul-work
