@@ -6,8 +6,9 @@
  * Prints, for each step and for the whole, the best of RUNS (default 3) of each side in nanoseconds of processor time for a
  * cell, and their ratio, library to baseline; and fails where a result differs. Buffers are written once before any clock
  * starts. The baseline's fill needs its outlets and its counts and labels need its ways, so these count with the steps that use
- * them: outlets with the fill, ways with the counts and with the labels. The baseline lists no ponds: that line has the
- * library's own fill in the baseline's place.
+ * them: outlets with the fill, ways with the counts and with the labels. The baseline lists no ponds and opens no culvert: those
+ * lines have the library's own fill, and its own one call, in the baseline's place. The culvert lies at the elevation of its cell, so
+ * that its results are those of the one call.
  */
 #define main baseline_main
 #include "baseline.c"
@@ -67,7 +68,9 @@ int main(int argc, char **argv)
     make_tables(s);
     /* a small sheet is worked out many times between two readings of the clock */
     int times = n < 100000 ? (int)(2000000 / n) + 1 : 1;
-    double base[B_N], ours[B_N], listed = 1e300;
+    double base[B_N], ours[B_N], listed = 1e300, opened = 1e300;
+    uint32_t cell = s.cells / 2; /* a data cell near the middle */
+    while (cell + 1 < s.cells && z[cell] == TERVUOLA_VOID) cell++;
     for (int k = 0; k < B_N; k++) base[k] = ours[k] = 1e300;
     for (int run = 0; run < runs; run++) {
         double t[7] = { 0 }, u[6] = { 0 };
@@ -119,6 +122,15 @@ int main(int argc, char **argv)
         same("a count of the one call", acc, acc2, 4 * n);
         same("a label of the one call", lab, lab2, 4 * n);
         for (int k = 0; k < B_N; k++) least(&ours[k], u[k]);
+        memset(f2, 1, 2 * n); memset(code2, 1, n); memset(acc2, 1, 4 * n); memset(lab2, 1, 4 * n);
+        double o = now();
+        for (int k = 0; k < times; k++)
+            accepted(tervuola_culvert(s.rows, s.cols, z, n, cell, z[cell], f2, n, code2, n, acc2, n, lab2, n, work, work_len));
+        least(&opened, now() - o);
+        same("the filled sheet of the culvert", f, f2, 2 * n);
+        same("a code of the culvert", code, code2, n);
+        same("a count of the culvert", acc, acc2, 4 * n);
+        same("a label of the culvert", lab, lab2, 4 * n);
         tervuola_counted found = { 0, 0, 0 };
         double a = now();
         for (int k = 0; k < times; k++)
@@ -135,5 +147,6 @@ int main(int argc, char **argv)
     }
     for (int k = 0; k < B_N; k++) line(names[k], "baseline", base[k], ours[k], (double)n * times);
     line("ponds", "fill", ours[B_FILL], listed, (double)n * times);
+    line("culvert", "one call", ours[B_ALL], opened, (double)n * times);
     return 0;
 }

@@ -1,5 +1,5 @@
 /*
- * tervuola.h - drainage of an elevation sheet: fill, flow directions, flow accumulation counts, basins, ponds.
+ * tervuola.h - drainage of an elevation sheet: fill, flow directions, flow accumulation counts, basins, ponds, culverts.
  *
  * Every call is proved against the definitions in crates/grid/specs (docs/DEFINITIONS.md has them in words, docs/PROVED.md says
  * what is proved): for every input and every length of every buffer it gives the number, the place and every element of every
@@ -35,7 +35,7 @@
 #include <stdint.h>
 
 #define TERVUOLA_VERSION_MAJOR 0
-#define TERVUOLA_VERSION_MINOR 2
+#define TERVUOLA_VERSION_MINOR 3
 #define TERVUOLA_VERSION_PATCH 0
 
 /* The void mark, and the eight direction codes. */
@@ -77,7 +77,9 @@ enum tervuola_number {
     TERVUOLA_BAD_CODE = 11,       /* a code is neither 0 nor one of the eight; place: the first such cell */
     TERVUOLA_ENDLESS = 12,        /* a route does not end; place: the first cell with such a route */
     TERVUOLA_BAD_START = 13,      /* a start where the code is 0; place: the first such cell */
-    TERVUOLA_SHORT_COLUMNS = 14   /* the columns do not hold all pairs, or all ponds; place: their number */
+    TERVUOLA_SHORT_COLUMNS = 14,  /* the columns do not hold all pairs, or all ponds; place: their number */
+    TERVUOLA_BAD_CELL = 15,       /* the cell is no data cell of the sheet: a void, or off the sheet; place: the cell as given */
+    TERVUOLA_BAD_LEVEL = 16       /* the level is -32768, or above the cell's elevation; place: the cell */
 };
 
 typedef struct {
@@ -126,6 +128,8 @@ static inline const char *tervuola_text(uint32_t number)
     case TERVUOLA_ENDLESS: return "a route does not end";
     case TERVUOLA_BAD_START: return "a start lies on a cell without a direction code";
     case TERVUOLA_SHORT_COLUMNS: return "the columns do not hold all pairs or ponds";
+    case TERVUOLA_BAD_CELL: return "the cell is no data cell of the sheet";
+    case TERVUOLA_BAD_LEVEL: return "the level is the void mark or above the cell's elevation";
     default: return "unknown number";
     }
 }
@@ -200,6 +204,21 @@ tervuola_answer tervuola_drain(uint32_t rows, uint32_t cols,
                                uint32_t *counts, size_t counts_len,
                                uint32_t *labels, size_t labels_len,
                                uint32_t *work, size_t work_len);
+
+/*
+ * A culvert under a road bank: the four results of the sheet with the cell at the level. The elevations themselves are not changed.
+ * cell: the number of a data cell, an outlet too. level: at most its elevation, and not the void; equal to it, it changes nothing.
+ * Buffers as of tervuola_drain.
+ * Numbers: 5 6 7 8 9 15 16. Promise: CulvertPromise, with demand 3 for every accepted culvert, the opened sheet being the input.
+ */
+tervuola_answer tervuola_culvert(uint32_t rows, uint32_t cols,
+                                 const int16_t *elevations, size_t elevations_len,
+                                 uint32_t cell, int16_t level,
+                                 int16_t *filled, size_t filled_len,
+                                 uint8_t *codes, size_t codes_len,
+                                 uint32_t *counts, size_t counts_len,
+                                 uint32_t *labels, size_t labels_len,
+                                 uint32_t *work, size_t work_len);
 
 /*
  * Watersheds from starts: the label of the first start on the cell's route, itself included, or 0.

@@ -1,4 +1,4 @@
-// Every call of libtervuola.a against the second program as it is after request 1, on its sheets, on sheets of ponds, on random codes and
+// Every call of libtervuola.a against the second program as it is after request 2, on its sheets, on sheets of ponds, on random codes and
 // on wrong lengths.
 //   compare ROUNDS [SEED]      sheets up to 40 by 40
 //   compare big KIND SIDE      one large sheet, by the second program's fast layer
@@ -161,25 +161,88 @@ static void pour_points_round(const Desc &d, const V<i16> &e0, gen::Rng &g, Leng
   same_list("pour_points", "the elevations", z, wz, round);
   same_list("pour_points", "the cells", c, wc, round);
 }
-static void drain_round(const Desc &d, const V<i16> &e0, Lengths len, u64 round) {
-  V<i16> e = resized(e0, len.of(e0.size()));
-  Lent<i16> f(len.of(e0.size()));
-  Lent<u8> k(len.of(e0.size()));
-  Lent<u32> n(len.of(e0.size())), l(len.of(e0.size())), work(len.work(e0.size()));
+// the answers that a call has given
+static std::map<std::string, std::map<u32, u64>> answers;
+// A call for the four results; `said` is the second program's answer to it. The sheet handed in must stay as it was. Gives the number and the
+// filled sheet.
+struct Filled {
+  u32 number;
+  V<i16> filled;
+};
+template <class Call, class Said>
+static Filled four_round(const char *name, Call call, Said said, const V<i16> &e, size_t cells, Lengths len, u64 round) {
+  Lent<i16> f(len.of(cells));
+  Lent<u8> k(len.of(cells));
+  Lent<u32> n(len.of(cells)), l(len.of(cells)), work(len.work(cells));
+  V<i16> input(e);
   Four want;
   want.filled = f.list();
   want.codes = k.list();
   want.counts = n.list();
   want.labels = l.list();
-  Reply r = call_four(d, e, want, work.n);
-  tervuola_answer a = tervuola_drain((u32)d.rows, (u32)d.cols, e.data(), e.size(), f.at(), f.n, k.at(), k.n,
-                                     n.at(), n.n, l.at(), l.n, work.at(), work.n);
-  same_answer("drain", a.number, a.place, r, round);
-  same_list("drain", "the filled sheet", f, want.filled, round);
-  same_list("drain", "the codes", k, want.codes, round);
-  same_list("drain", "the counts", n, want.counts, round);
-  same_list("drain", "the labels", l, want.labels, round);
-  same_work("drain", a.number, work, round);
+  Reply r = said(want, work.n);
+  tervuola_answer a = call(f, k, n, l, work);
+  same_answer(name, a.number, a.place, r, round);
+  same_list(name, "the filled sheet", f, want.filled, round);
+  same_list(name, "the codes", k, want.codes, round);
+  same_list(name, "the counts", n, want.counts, round);
+  same_list(name, "the labels", l, want.labels, round);
+  same_work(name, a.number, work, round);
+  if (e != input)
+    fail(name, "the sheet handed in", round);
+  answers[name][a.number]++;
+  return {a.number, f.list()};
+}
+static void drain_round(const Desc &d, const V<i16> &e0, Lengths len, u64 round) {
+  V<i16> e = resized(e0, len.of(e0.size()));
+  four_round(
+      "drain",
+      [&](Lent<i16> &f, Lent<u8> &k, Lent<u32> &n, Lent<u32> &l, Lent<u32> &work) {
+        return tervuola_drain((u32)d.rows, (u32)d.cols, e.data(), e.size(), f.at(), f.n, k.at(), k.n, n.at(), n.n, l.at(), l.n, work.at(), work.n);
+      },
+      [&](Four &want, u64 work) { return call_four(d, e, want, work); }, e, e0.size(), len, round);
+}
+// A cell and a level for it: mostly a data cell, now and then any cell or none; a level below, equal, above, or any.
+static u32 some_cell(gen::Rng &g, const V<i16> &e) {
+  if (g.chance(5)) {
+    static const u32 off[] = {0, 1, 65536, 2147483648u, 4294967295u};
+    u32 past = off[g.below(5)];
+    return past > 1 ? past : (u32)e.size() + past;
+  }
+  u32 cell = e.empty() ? 0 : (u32)g.below(e.size());
+  for (int tries = 0; g.chance(95) && tries < 20 && !e.empty() && e[cell] == VOIDMARK; tries++)
+    cell = (u32)g.below(e.size());
+  return cell;
+}
+static i16 some_level(gen::Rng &g, i16 z) {
+  if (g.chance(60)) // within the digger's reach, as far down as there is a number
+    return (i16)std::max<i64>(-32767, (i64)z - (i64)(g.chance(70) ? 1 + g.below(9) : 1 + g.below(65535)));
+  if (g.chance(50))
+    return z;
+  if (g.chance(30))
+    return VOIDMARK;
+  return g.chance(60) ? (i16)std::min<i64>(32767, (i64)z + 1 + (i64)g.below(3)) : (i16)g.in(-32768, 32767);
+}
+// cells opened to a lower level, those of them on the border, and those whose culvert lowers the filled sheet elsewhere
+static u64 opened_lower = 0, opened_border = 0, opened_banks = 0;
+static void culvert_round(const Desc &d, const V<i16> &e0, gen::Rng &g, Lengths len, u64 round) {
+  V<i16> e = resized(e0, len.of(e0.size()));
+  u32 cell = some_cell(g, e0);
+  i16 level = some_level(g, cell < e0.size() ? e0[cell] : (i16)0);
+  Filled r = four_round(
+      "culvert",
+      [&](Lent<i16> &f, Lent<u8> &k, Lent<u32> &n, Lent<u32> &l, Lent<u32> &work) {
+        return tervuola_culvert((u32)d.rows, (u32)d.cols, e.data(), e.size(), cell, level, f.at(), f.n, k.at(), k.n, n.at(), n.n, l.at(), l.n,
+                                work.at(), work.n);
+      },
+      [&](Four &want, u64 work) { return call_culvert(d, e, V<u64>{cell}, V<i16>{level}, want, work); }, e, e0.size(), len, round);
+  if (r.number == 0 && level < e[cell]) {
+    opened_lower++;
+    opened_border += cell < d.cols || cell >= d.n() - d.cols || cell % d.cols == 0 || cell % d.cols == d.cols - 1;
+    V<i16> plain = oracle::fill(d, e);
+    plain[cell] = r.filled[cell];
+    opened_banks += plain != r.filled;
+  }
 }
 // Sheets of ponds, at any height and with voids now and then.
 enum Form { PITS, DIAGONALS, RINGS, BLOCKS, DEEPEST, FORMS };
@@ -220,8 +283,7 @@ static V<i16> pond_sheet(gen::Rng &g, u64 form, u64 rows, u64 cols) {
         x = VOIDMARK;
   return e;
 }
-// the answers that ponds has given, and the most ponds of one sheet
-static std::map<u32, u64> ponds_answers;
+// the most ponds of one sheet
 static u64 most_ponds = 0;
 static void ponds_round(const Desc &d, const V<i16> &e0, bool exact, gen::Rng &g, Lengths len, u64 round) {
   V<i16> e = resized(e0, len.of(e0.size()));
@@ -246,7 +308,7 @@ static void ponds_round(const Desc &d, const V<i16> &e0, bool exact, gen::Rng &g
   same_list("ponds", "the cells", c, wc, round);
   same_list("ponds", "the volumes", v, wv, round);
   same_work("ponds", x.number, work, round);
-  ponds_answers[x.number]++;
+  answers["ponds"][x.number]++;
   most_ponds = std::max<u64>(most_ponds, x.count);
 }
 static void read_round(const std::string &t, gen::Rng &g, u64 round) {
@@ -287,6 +349,18 @@ static V<u8> some_codes(gen::Rng &g, const Desc &d, const V<i16> &e) {
   }
 }
 
+// how often a call gave each of the answers that it has; all of them must have come
+static bool every_answer(const char *call, const V<u32> &numbers) {
+  printf("compare: %s, times of each answer:", call);
+  bool all = answers[call].size() == numbers.size();
+  for (u32 number : numbers) {
+    printf("  %u: %llu", number, (unsigned long long)answers[call][number]);
+    all = all && answers[call][number];
+  }
+  printf("\n");
+  return all;
+}
+
 static int rounds(u64 count, u64 seed) {
   auto &kinds = gen::kinds();
   auto &bad = gen::badkinds();
@@ -312,18 +386,21 @@ static int rounds(u64 count, u64 seed) {
     starts_round(d, codes, g, len, i);
     pour_points_round(d, s.e, g, len, i);
     drain_round(d, s.e, len, i);
+    V<i16> banks = pond_sheet(g, i % FORMS, s.rows, s.cols);
     ponds_round(d, s.e, false, g, len, i);
-    ponds_round(d, pond_sheet(g, i % FORMS, s.rows, s.cols), false, g, len, i);
+    ponds_round(d, banks, false, g, len, i);
+    culvert_round(d, s.e, g, len, i);
+    culvert_round(d, banks, g, len, i);
     read_round(gen::badtext(bad[i % bad.size()], g.g() % 1000000), g, i);
     if (s.rows * s.cols <= 2304)
       read_round(gen::text(s), g, i);
   }
   printf("compare: %llu rounds, %llu comparisons, all equal\n", (unsigned long long)count, (unsigned long long)checks);
-  printf("compare: up to %llu ponds, and of each answer", (unsigned long long)most_ponds);
-  for (u32 number : {0, 5, 6, 7, 8, 9, 14})
-    printf("  %u: %llu", number, (unsigned long long)ponds_answers[number]);
-  printf("\n");
-  return checks && ponds_answers.size() == 7 ? 0 : 1;
+  printf("compare: up to %llu ponds; %llu cells opened to a lower level, %llu of them on the border, %llu that lower the filled sheet elsewhere\n",
+         (unsigned long long)most_ponds, (unsigned long long)opened_lower, (unsigned long long)opened_border, (unsigned long long)opened_banks);
+  bool all = every_answer("ponds", {0, 5, 6, 7, 8, 9, 14});
+  all = every_answer("culvert", {0, 5, 6, 7, 8, 9, 15, 16}) && all;
+  return checks && all && opened_border && opened_banks ? 0 : 1;
 }
 
 static int big(const char *kind, u64 side) {
@@ -344,14 +421,21 @@ static int big(const char *kind, u64 side) {
   watersheds_round(d, codes, g, len, 0);
   starts_round(d, codes, g, len, 0);
   drain_round(d, s.e, len, 0);
+  V<i16> banks = pond_sheet(g, DEEPEST, side, side);
   ponds_round(d, s.e, true, g, len, 0);
-  ponds_round(d, pond_sheet(g, DEEPEST, side, side), true, g, len, 0);
+  ponds_round(d, banks, true, g, len, 0);
+  for (int k = 0; k < 3; k++)
+    culvert_round(d, k ? banks : s.e, g, len, 0);
+  if (!answers["culvert"][0]) {
+    fprintf(stderr, "compare: no culvert was opened\n");
+    return 1;
+  }
   printf("compare: %s at %llu square, %llu comparisons, all equal\n", kind, (unsigned long long)side, (unsigned long long)checks);
   return checks ? 0 : 1;
 }
 
 int main(int argc, char **argv) {
-  LEVEL = 1;
+  LEVEL = 2;
   if (argc == 4 && !strcmp(argv[1], "big"))
     return big(argv[2], strtoull(argv[3], 0, 10));
   if (argc < 2) {

@@ -1,5 +1,6 @@
 // Demand 3 by brute force on tiny sheets, as a test of the statement: every chain without repeats, every rival sheet over three levels.
-// It looks only at the four results of tervuola_drain and at document 01's sentences.
+// It looks only at the four results of tervuola_drain and tervuola_culvert and at document 01's sentences, with the elevations handed in as
+// the input, and with the opened sheet.
 #include "../../include/tervuola.h"
 #include <cstdio>
 #include <cstdlib>
@@ -10,7 +11,7 @@ using std::vector;
 
 static const int STEP[8][2] = {{-1, 1}, {0, 1}, {1, 1}, {1, 0}, {1, -1}, {0, -1}, {-1, -1}, {-1, 0}};
 static int rows, cols;
-static vector<int16_t> e;
+static vector<int16_t> e; // the input
 static unsigned long facts = 0;
 
 static int at_step(int c, int p) {
@@ -76,13 +77,19 @@ static bool drains(const vector<int16_t> &f) {
   return true;
 }
 
-static void sheet() {
+// the four results of a call for the input e
+struct Four {
+  vector<int16_t> filled;
+  vector<uint8_t> codes;
+  vector<uint32_t> counts, labels, work;
+  explicit Four(size_t n) : filled(n), codes(n), counts(n), labels(n), work(4 * n) {}
+};
+static void judge(const Four &four) {
   size_t n = e.size();
-  vector<int16_t> filled(n);
-  vector<uint8_t> codes(n);
-  vector<uint32_t> counts(n), labels(n), work(4 * n), through(n, 0);
-  tervuola_answer a = tervuola_drain((uint32_t)rows, (uint32_t)cols, e.data(), n, filled.data(), n, codes.data(), n, counts.data(), n, labels.data(), n, work.data(), 4 * n);
-  hold(a.number == 0, "acceptance");
+  const vector<int16_t> &filled = four.filled;
+  const vector<uint8_t> &codes = four.codes;
+  const vector<uint32_t> &counts = four.counts, &labels = four.labels;
+  vector<uint32_t> through(n, 0);
   for (size_t i = 0; i < n; i++) {
     int c = (int)i;
     if (!data(c)) {
@@ -139,9 +146,32 @@ static void sheet() {
   }
 }
 
+static void sheet() {
+  size_t n = e.size();
+  Four r(n);
+  tervuola_answer a = tervuola_drain((uint32_t)rows, (uint32_t)cols, e.data(), n, r.filled.data(), n, r.codes.data(), n, r.counts.data(), n,
+                                     r.labels.data(), n, r.work.data(), 4 * n);
+  hold(a.number == 0, "acceptance");
+  judge(r);
+}
+
+// the call has the elevations as they were handed in, and is judged on the opened sheet; both stay as they were
+static void opened_sheet(size_t cell, int16_t level) {
+  size_t n = e.size();
+  Four r(n);
+  vector<int16_t> given(e), kept(e);
+  tervuola_answer a = tervuola_culvert((uint32_t)rows, (uint32_t)cols, given.data(), n, (uint32_t)cell, level, r.filled.data(), n, r.codes.data(), n,
+                                       r.counts.data(), n, r.labels.data(), n, r.work.data(), 4 * n);
+  hold(a.number == 0, "acceptance of the culvert");
+  hold(given == kept, "the sheet handed in");
+  e[cell] = level;
+  judge(r);
+  e = kept;
+}
+
 int main() {
   std::mt19937 g(1);
-  unsigned long sheets = 0;
+  unsigned long sheets = 0, opened = 0;
   for (int size = 0; size < 4; size++) { // all sheets of these sizes
     static const int sides[4][2] = {{1, 1}, {1, 4}, {2, 2}, {2, 3}};
     rows = sides[size][0], cols = sides[size][1];
@@ -156,6 +186,10 @@ int main() {
         x = v % 4 == 3 ? (int16_t)TERVUOLA_VOID : (int16_t)(v % 4), v /= 4;
       sheet();
       sheets++;
+      for (size_t c = 0; c < n; c++) // and each with every cell opened to every level, where there are few
+        for (int level = -1; data((int)c) && level <= e[c]; level++)
+          if (n <= 4 || g() % 8 == 0)
+            opened_sheet(c, (int16_t)level), opened++;
     }
   }
   for (int k = 0; k < 1500; k++) { // some of these
@@ -170,7 +204,10 @@ int main() {
           e[(size_t)(r * cols + q)] = 0;
     sheet();
     sheets++;
+    size_t c = g() % e.size();
+    if (data((int)c))
+      opened_sheet(c, (int16_t)((int)(g() % (unsigned)(e[c] + 2)) - 1)), opened++;
   }
-  printf("demand 3: %lu facts on %lu tiny sheets\n", facts, sheets);
+  printf("demand 3: %lu facts on %lu tiny sheets, and on %lu opened ones\n", facts, sheets, opened);
   return 0;
 }

@@ -17,7 +17,8 @@ static uint32_t work[TERVUOLA_WORK_SIZE(3, 2 + 1)];
 int main(void)
 {
     uint32_t k, numbers[9], cells[2];
-    int16_t elevations[9], level[2];
+    int16_t elevations[9], filled[9], level[2];
+    uint8_t codes[9];
     uint64_t volume[2];
     work[35] = 1;
     EXPECT(sizeof work == 144 && work[35] == 1);
@@ -30,14 +31,17 @@ int main(void)
     EXPECT(TERVUOLA_VOID == -32768);
     EXPECT(TERVUOLA_MAX_SIDE == 4000);
     EXPECT(sizeof(tervuola_answer) == 8 && sizeof(tervuola_counted) == 12 && sizeof(tervuola_dimensions) == 16);
-    /* the types of the ponds' buffers; nothing is called under sizeof */
+    /* the types of the buffers, of a cell and of its level; nothing is called under sizeof */
     EXPECT(sizeof tervuola_ponds(3, 3, elevations, 9, numbers, 9, level, 2, cells, 2, volume, 2, work, 36) == sizeof(tervuola_counted));
+    EXPECT(sizeof tervuola_culvert(3, 3, elevations, 9, numbers[0], level[0], filled, 9, codes, 9, numbers, 9, numbers, 9, work, 36)
+           == sizeof(tervuola_answer));
     EXPECT(strcmp(tervuola_text(0), "accepted") == 0);
-    for (k = 1; k <= 14; k++) {
+    for (k = 1; k <= 16; k++) {
         EXPECT(strcmp(tervuola_text(k), "unknown number") != 0);
         EXPECT(strcmp(tervuola_text(k), tervuola_text(k - 1)) != 0);
     }
     EXPECT(strstr(tervuola_text(14), "pairs") && strstr(tervuola_text(14), "ponds"));
-    EXPECT(strcmp(tervuola_text(15), "unknown number") == 0);
+    EXPECT(TERVUOLA_BAD_CELL == 15 && TERVUOLA_BAD_LEVEL == 16);
+    EXPECT(strcmp(tervuola_text(17), "unknown number") == 0);
     return 0;
 }

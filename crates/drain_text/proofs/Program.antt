@@ -118,7 +118,7 @@ module _ (g : Grid) (e filled₀ filled₁ : List ℤ) (codes₀ codes₁ counts
   pub results-printed : (out₁ : List ℕ) (n : ℕ) → Printed (resultText g filled₁ codes₁ counts₁ labels₁) out₀ out₁ n
       → Printed (drainText g e) out₀ out₁ n
   unfolding drainText
-  results-printed out₁ n q = rw (p .filled, p .codes, p .counts, p .labels, accepts) at q
+  results-printed out₁ n q = let r = p .four in rw (r .filled, r .codes, r .counts, r .labels, accepts) at q
 
 -- its results have the sizes that the printing asks for
 pub results-fit : (g : Grid) (e filled₀ filled₁ : List ℤ) (codes₀ codes₁ counts₀ counts₁ labels₀ labels₁ work₀ out₀ : List ℕ)

@@ -1,4 +1,4 @@
--- From step to step of the one call: the filled sheet has every level, so its directions are written; their codes are all of the eight or
+-- From step to step, for an input sheet e: the filled sheet has every level, so its directions are written; their codes are all of the eight or
 -- 0, and their routes end.
 use mathlib.Core.Path.{_≡_, sym, _∙_, ap, subst}
 use mathlib.Core.Bool.{cond}
@@ -24,23 +24,23 @@ use Rattle.drainage.specs.Results.{Measured, Routable, Results}
 half-room : (n : ℕ) (t : List ℕ) → 4 * n ≤ length t → n + n ≤ length (take (length t - length t / 2) (drop (length t / 2) t))
 half-room n t h = simp (length-take, length-drop) (omega arith)
 
-module _ (g : Grid) (e f₁ : List ℤ) (k₀ k₁ : List ℕ) (f k a l w r : ℕ) (M : Measured g (length e) f k a l w) (range : InRange e)
-    (fills : f₁ ≡ filled g e)
+module _ (g : Grid) (e f₁ : List ℤ) (k₀ k₁ : List ℕ) (f k a l w r : ℕ) (M : Measured g f k a l w) (cells : length e ≡ size g)
+    (range : InRange e) (fills : f₁ ≡ filled g e)
     (first : r ≡ firstUnlevelled g f₁) (flows : k₁ ≡ cond (eqb r (size g)) (directions g f₁) k₀) where
   pub codes-right : k₁ ≡ directions g (filled g e)
   codes-right =
       flows
       ∙ cond-true (directions g f₁) k₀
-      (eq-eqb r (size g) (first ∙ ap (firstUnlevelled g) fills ∙ all-levelled g e (M .elevations-have) range))
+      (eq-eqb r (size g) (first ∙ ap (firstUnlevelled g) fills ∙ all-levelled g e cells range))
       ∙ ap (directions g) fills
 
   pub routable : (t : List ℕ) → length t ≡ w → Routable g k₁ a l (length (take (length t - length t / 2) (drop (length t / 2) t)))
   routable t q =
       record {
         fits = M .fits;
-        long = ap length codes-right ∙ codes-length g e (M .elevations-have) range;
-        all-codes = subst AllCodes (sym codes-right) (all-codes g e (M .elevations-have) range);
-        all-end = ap (firstEndless g) codes-right ∙ all-end g e (M .elevations-have) range;
+        long = ap length codes-right ∙ codes-length g e cells range;
+        all-codes = subst AllCodes (sym codes-right) (all-codes g e cells range);
+        all-end = ap (firstEndless g) codes-right ∙ all-end g e cells range;
         counts-have = M .counts-have;
         labels-have = M .labels-have;
         room = half-room (size g) t (let h = M .room in omega arith);
@@ -49,6 +49,7 @@ module _ (g : Grid) (e f₁ : List ℤ) (k₀ k₁ : List ℕ) (f k a l w r : �
   pub results : (a₁ l₁ : List ℕ) → a₁ ≡ counts g k₁ → l₁ ≡ labels g k₁ → Results g e f₁ k₁ a₁ l₁
   results a₁ l₁ p q =
       record {
+        cells = cells;
         range = range;
         filled = fills;
         codes = codes-right;

@@ -1,4 +1,4 @@
--- What a yes to questions 5 to 9 says of the buffers of the one call, and the four lists that its inner part leaves.
+-- What a yes to questions 5 to 9 says of the buffers of the four results, and the four lists that are left.
 use mathlib.Core.Path.{_≡_}
 use mathlib.Core.List.{List}
 use Prim.Native.Nat.{ℕ, _+_, _*_, _≤_}
@@ -14,9 +14,8 @@ use Rattle.route_laws.specs.Receivers.{AllCodes}
 use Rattle.checks.specs.Sizes.{Fits}
 
 -- the lengths of the buffers
-pub record Measured (g : Grid) (elevations filled codes counts labels work : ℕ) : Type 0 where
+pub record Measured (g : Grid) (filled codes counts labels work : ℕ) : Type 0 where
   pub fits : Fits g
-  pub elevations-have : elevations ≡ size g
   pub filled-has : filled ≡ size g
   pub codes-have : codes ≡ size g
   pub counts-have : counts ≡ size g
@@ -33,10 +32,12 @@ pub record Routable (g : Grid) (codes : List ℕ) (counts labels tail : ℕ) : T
   pub labels-have : labels ≡ size g
   pub room : size g + size g ≤ tail
 
--- "the filled sheet, directions, labels and counts there are this call's four results, equal to what is defined here"
-pub record Results (g : Grid) (elevations filled₁ : List ℤ) (codes₁ counts₁ labels₁ : List ℕ) : Type 0 where
-  pub range : InRange elevations
-  pub filled : filled₁ ≡ F.filled g elevations
-  pub codes : codes₁ ≡ D.directions g (F.filled g elevations)
-  pub counts : counts₁ ≡ R.counts g (D.directions g (F.filled g elevations))
-  pub labels : labels₁ ≡ R.labels g (D.directions g (F.filled g elevations))
+-- the four lists of an input sheet: "the filled sheet, directions, labels and counts there are this call's four results, equal to what is
+-- defined here"
+pub record Results (g : Grid) (input filled₁ : List ℤ) (codes₁ counts₁ labels₁ : List ℕ) : Type 0 where
+  pub cells : length input ≡ size g
+  pub range : InRange input
+  pub filled : filled₁ ≡ F.filled g input
+  pub codes : codes₁ ≡ D.directions g (F.filled g input)
+  pub counts : counts₁ ≡ R.counts g (D.directions g (F.filled g input))
+  pub labels : labels₁ ≡ R.labels g (D.directions g (F.filled g input))

@@ -1,12 +1,16 @@
 // The one call of document 01: "One call works filled sheet, codes, counts and labels from elevations". The questions 5 to 9 first, then
-// the four steps in sequence over the one lent work buffer, each the proved piece of its own crate. Its promise carries demand 3 about the
+// the steps in sequence over the one lent work buffer, each the proved piece of its own crate. Its promise carries demand 3 about the
 // four lists that it leaves: they are those of the definitions, and for these demand 3 is a law (`guarantee_laws`, `proofs/OneCall`).
+// `drain_loaded` is a step of its own: the four results of any sheet that the keys in the work buffer spell, as of an opened one.
 use grid::Answer;
 use grid::Grid;
 ghost use mathlib.Core.Path.{_≡_};
 ghost use lib.ListN.{length};
+ghost use Rattle.grid.specs.Sheet.{size};
 ghost use Rattle.grid.specs.Routes.{counts as counts', labels as labels'};
 ghost use Rattle.grid.specs.Promises.{DrainPromise};
+ghost use Rattle.key_sort.specs.Order.{AreKeys};
+ghost use Rattle.fill.specs.Words.{sheetIn};
 ghost use Rattle.drainage.specs.Results.{Measured, Routable, Results};
 
 // Counts and labels of the codes, from one list of receivers at the front of the lent tail: the counts leave it as it is, the labels take
@@ -22,7 +26,27 @@ fn route_results(g: Grid, codes: &[u8], counts: &mut [u32], labels: &mut [u32], 
     labelling::labels_of(n, tail, labels);
 }
 
-// The four steps, on buffers of the right lengths.
+// The four results of the sheet whose keys stand in the work buffer, on buffers of the right lengths.
+pub fn drain_loaded(
+    g: Grid,
+    filled: &mut [i16],
+    codes: &mut [u8],
+    counts: &mut [u32],
+    labels: &mut [u32],
+    work: &mut [u32],
+)
+    requires { ⌜ Measured g (length (now filled)) (length (now codes)) (length (now counts)) (length (now labels)) (length (now work)) ⌝ }
+    requires { ⌜ AreKeys (size g) (now work) ⌝ }
+    ensures { λ _. ⌜ Results g (sheetIn (size g) (now (work .entry))) (now (filled .exit)) (now (codes .exit)) (now (counts .exit))
+        (now (labels .exit)) ⌝ }
+{
+    fill::fill_loaded(g, filled, work);
+    flow::directions_into(g, filled, codes, work);
+    let half = work.len() / 2;
+    route_results(g, codes, counts, labels, &mut work[half..]);
+}
+
+// The same for the sheet `elevations`.
 fn work_out(
     g: Grid,
     elevations: &[i16],
@@ -32,15 +56,13 @@ fn work_out(
     labels: &mut [u32],
     work: &mut [u32],
 )
-    requires { ⌜ Measured g (length (now elevations)) (length (now filled)) (length (now codes)) (length (now counts))
-        (length (now labels)) (length (now work)) ⌝ }
+    requires { ⌜ Measured g (length (now filled)) (length (now codes)) (length (now counts)) (length (now labels)) (length (now work)) ⌝ }
+    requires { ⌜ length (now elevations) ≡ size g ⌝ }
     ensures { λ _. ⌜ Results g (now (elevations .entry)) (now (filled .exit)) (now (codes .exit)) (now (counts .exit))
         (now (labels .exit)) ⌝ }
 {
-    fill::fill_into(g, elevations, filled, work);
-    flow::directions_into(g, filled, codes, work);
-    let half = work.len() / 2;
-    route_results(g, codes, counts, labels, &mut work[half..]);
+    fill::load(elevations, work);
+    drain_loaded(g, filled, codes, counts, labels, work);
 }
 
 // "One call works filled sheet, codes, counts and labels from elevations."

@@ -15,7 +15,7 @@ use Rattle.cells.specs.Keys.{keyOf}
 use Rattle.fill.proofs.Words.{in-range}
 
 -- what a store leaves at each index
-at-set : {A : Type 0} (d : A) (l : List A) (i : ℕ) (v : A) → i < length l → (x : ℕ) →
+pub at-set : {A : Type 0} (d : A) (l : List A) (i : ℕ) (v : A) → i < length l → (x : ℕ) →
     ((x ≡ i) × (getD (set l i v) x d ≡ v)) ⊎ ((x ≡ i → ⊥) × (getD (set l i v) x d ≡ getD l x d))
 at-set d l i v h x = go (ℕ-discrete x i)
   where

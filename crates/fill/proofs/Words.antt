@@ -32,7 +32,7 @@ module _ (n : ℕ) (w : List ℕ) where
   unfolding sheetIn
   sheet-length = length-table n _
 
-  sheet-at : (c : ℕ) → c < n → at (sheetIn n w) c ≡ levelOf (getD w c 0)
+  pub sheet-at : (c : ℕ) → c < n → at (sheetIn n w) c ≡ levelOf (getD w c 0)
   unfolding sheetIn
   sheet-at c h = at-table n _ c void h
 

@@ -2,7 +2,8 @@
 // keys into the work buffer, their cells sorted by key, flooded through that order, and the levels written as elevations. Proved by the
 // certificate of fill_laws: what the flood leaves is an outlet's own elevation, no cell above both its own and a neighbour's level, and
 // the place in the queue bounds the passes that a cell needs. The questions 5 to 9 come first; only the work buffer is written before the
-// last loop. `load`, `fill_words` and `unload` are steps of their own: other calls fill a sheet that the keys in the work buffer spell.
+// last loop. `load`, `fill_words`, `unload` and `fill_loaded` are steps of their own: other calls fill a sheet that the keys in the work
+// buffer spell.
 use grid::Answer;
 use grid::Grid;
 ghost use mathlib.Core.Path.{_≡_};
@@ -57,20 +58,31 @@ pub fn unload(n: usize, work: &[u32], filled: &mut [i16])
     }
 }
 
+// Fills the sheet whose keys stand in the work buffer into `filled`.
+pub fn fill_loaded(g: Grid, filled: &mut [i16], work: &mut [u32])
+    requires { ⌜ size g < 2 ^ 24 ⌝ }
+    requires { ⌜ g .cols < 2 ^ 24 ⌝ }
+    requires { ⌜ length (now filled) ≡ size g ⌝ }
+    requires { ⌜ 4 * size g ≤ length (now work) ⌝ }
+    requires { ⌜ AreKeys (size g) (now work) ⌝ }
+    ensures { λ r. ⌜ now (filled .exit) ≡ filled' g (sheetIn (size g) (now (work .entry))) ⌝ }
+{
+    let n = g.rows * g.cols;
+    fill_words(g, work);
+    unload(n, work, filled);
+}
+
 // Fills the sheet `elevations` into `filled`.
-pub fn fill_into(g: Grid, elevations: &[i16], filled: &mut [i16], work: &mut [u32])
+fn fill_into(g: Grid, elevations: &[i16], filled: &mut [i16], work: &mut [u32])
     requires { ⌜ size g < 2 ^ 24 ⌝ }
     requires { ⌜ g .cols < 2 ^ 24 ⌝ }
     requires { ⌜ length (now elevations) ≡ size g ⌝ }
     requires { ⌜ length (now filled) ≡ size g ⌝ }
     requires { ⌜ 4 * size g ≤ length (now work) ⌝ }
     ensures { λ r. ⌜ now (filled .exit) ≡ filled' g (now (elevations .entry)) ⌝ }
-    ensures { λ r. ⌜ InRange (now (elevations .entry)) ⌝ }
 {
-    let n = g.rows * g.cols;
     load(elevations, work);
-    fill_words(g, work);
-    unload(n, work, filled);
+    fill_loaded(g, filled, work);
 }
 
 // Question 5 to 9, and after a yes the filled sheet.

@@ -6,12 +6,14 @@ use lib.Dec.{eqb}
 use lib.ListN.{getD}
 use lib.IntN.{ℤ, pos, negsuc}
 use Rattle.grid.specs.Below.{table}
+use Rattle.grid.specs.declared.Answer.{Answer}
 use Rattle.grid.specs.Sheet.{gridOf, eqZ}
 use Rattle.grid.specs.Fill.{filled}
 use Rattle.grid.specs.Directions.{choice, directions}
 use Rattle.grid.specs.Routes.{counts, labels}
 use Rattle.grid.specs.Ponds.{ponds, pondCount, pondLevel, pondCells, pondVolume}
-use Rattle.grid.specs.Checks.{fillCheck, drainCheck, codesCheck, pondsCheck}
+use Rattle.grid.specs.Culvert.{opened}
+use Rattle.grid.specs.Checks.{fillCheck, drainCheck, codesCheck, pondsCheck, culvertCheck}
 use Rattle.grid.specs.Frames.{programText}
 
 pub data Case : Type 0 where
@@ -116,13 +118,36 @@ poolNumbers =
     0 ∷ 0 ∷ 1 ∷ 0 ∷ 0 ∷ 0 ∷
     0 ∷ 0 ∷ 0 ∷ 0 ∷ 0 ∷ 0 ∷ []
 
+-- 3 by 5: a bank of 6 between a hollow of 2 and the way out in the east
+bank : List ℤ
+bank =
+    pos 9 ∷ pos 9 ∷ pos 9 ∷ pos 9 ∷ pos 9 ∷
+    pos 9 ∷ pos 2 ∷ pos 6 ∷ pos 3 ∷ pos 1 ∷
+    pos 9 ∷ pos 9 ∷ pos 9 ∷ pos 9 ∷ pos 9 ∷ []
+
+-- with the bank's cell at 2
+opened-bank : List ℤ
+opened-bank =
+    pos 9 ∷ pos 9 ∷ pos 9 ∷ pos 9 ∷ pos 9 ∷
+    pos 9 ∷ pos 2 ∷ pos 2 ∷ pos 3 ∷ pos 1 ∷
+    pos 9 ∷ pos 9 ∷ pos 9 ∷ pos 9 ∷ pos 9 ∷ []
+
+-- number and place for a culvert in the bank, with a work buffer of this length
+culvertIn : ℕ → ℤ → ℕ → List ℕ
+culvertIn cell level work =
+    let a : Answer = culvertCheck (gridOf 3 5) bank cell level 15 15 15 15 work in
+    a .number ∷ a .place ∷ []
+
 basinCodes : List ℕ
 basinCodes = directions (gridOf 5 5) basin
+
+openedCodes : List ℕ
+openedCodes = directions (gridOf 3 5) (filled (gridOf 3 5) opened-bank)
 
 -- ---- the table
 
 unfoldable pub knownGround : List Case
-unfolding printed-input printed-output voids between middle basin hole pools poolNumbers basinCodes
+unfolding printed-input printed-output voids between middle basin hole pools poolNumbers bank opened-bank culvertIn basinCodes openedCodes
 knownGround =
     -- P1: the printed example, from text to text
     numbers (programText printed-input) printed-output
@@ -158,6 +183,23 @@ knownGround =
     ∷ numbers ((pondsCheck (gridOf 4 6) pools 24 1 1 1 96) .number ∷ (pondsCheck (gridOf 4 6) pools 24 1 1 1 96) .place ∷ []) (14 ∷ 2 ∷ [])
     -- columns of unlike length get 8, before 9
     ∷ numbers ((pondsCheck (gridOf 4 6) pools 24 1 2 1 0) .number ∷ []) (8 ∷ [])
+    -- a culvert: the opened sheet, and the four results that the call gives for it
+    ∷ elevations (opened bank 7 (pos 2)) opened-bank
+    ∷ elevations (filled (gridOf 3 5) opened-bank)
+    (pos 9 ∷ pos 9 ∷ pos 9 ∷ pos 9 ∷ pos 9 ∷
+    pos 9 ∷ pos 3 ∷ pos 3 ∷ pos 3 ∷ pos 1 ∷
+    pos 9 ∷ pos 9 ∷ pos 9 ∷ pos 9 ∷ pos 9 ∷ [])
+    ∷ numbers openedCodes (32 ∷ 128 ∷ 128 ∷ 128 ∷ 2 ∷ 32 ∷ 2 ∷ 2 ∷ 2 ∷ 2 ∷ 32 ∷ 8 ∷ 8 ∷ 8 ∷ 2 ∷ [])
+    ∷ numbers (counts (gridOf 3 5) openedCodes) (0 ∷ 0 ∷ 0 ∷ 0 ∷ 0 ∷ 0 ∷ 0 ∷ 1 ∷ 2 ∷ 3 ∷ 0 ∷ 0 ∷ 0 ∷ 0 ∷ 0 ∷ [])
+    ∷ numbers (labels (gridOf 3 5) openedCodes) (1 ∷ 2 ∷ 3 ∷ 4 ∷ 5 ∷ 6 ∷ 10 ∷ 10 ∷ 10 ∷ 10 ∷ 11 ∷ 12 ∷ 13 ∷ 14 ∷ 15 ∷ [])
+    -- the cell's own elevation passes, and the lowest level at an outlet; above it and −32,768 get 16, off the sheet and a void 15
+    ∷ numbers (culvertIn 7 (pos 6) 60) (0 ∷ 0 ∷ [])
+    ∷ numbers (culvertIn 4 (negsuc 32766) 60) (0 ∷ 0 ∷ [])
+    ∷ numbers (culvertIn 7 (pos 7) 60) (16 ∷ 7 ∷ [])
+    ∷ numbers (culvertIn 7 (negsuc 32767) 60) (16 ∷ 7 ∷ [])
+    ∷ numbers (culvertIn 15 (negsuc 32767) 60) (15 ∷ 15 ∷ [])
+    ∷ numbers ((culvertCheck (gridOf 5 5) hole 12 (negsuc 32766) 25 25 25 25 100) .number ∷ []) (15 ∷ [])
+    ∷ numbers (culvertIn 15 (negsuc 32767) 59) (9 ∷ 0 ∷ [])
     -- "Rows 4,000 passes, 4,001 gets 5. Codes 2 and 32 side by side, facing each other, get 12"
     ∷ numbers ((fillCheck (gridOf 4000 1) 4000 4000 16000) .number ∷ []) (0 ∷ [])
     ∷ numbers ((fillCheck (gridOf 4001 1) 4001 4001 16004) .number ∷ []) (5 ∷ [])

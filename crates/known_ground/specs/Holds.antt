@@ -11,6 +11,8 @@ use Rattle.grid.specs.Directions.{firstUnlevelled}
 use Rattle.grid.specs.Routes.{follow, endsBy, hasCode, receiver, countAt, labelAt, counts, labels, firstBadCode, firstEndless}
 use Rattle.grid.specs.Joined.{joinPass, joinPasses, joined}
 use Rattle.grid.specs.Ponds.{isWet, pondOf, lowestCell, isLowest, ponds, pondCount, natural, depth, pondLevel, pondCells, pondVolume}
+use Rattle.grid.specs.Culvert.{opened, isLevelFor}
+use Rattle.grid.specs.Checks.{askCulvert, culvertCheck}
 use Rattle.grid.specs.Checks.{inRange, askSize, allHave, askSheets, askWork, askCodes, fillCheck, codesCheck, drainCheck, pondsCheck}
 use Rattle.grid.specs.Frames.{hexValue, isTextByte, number4, textGrid, endsLine, isShaped, firstBadByte, readCheck, fromTwos, toTwos}
 use Rattle.grid.specs.Frames.{textSheet, upperDigit, hexText, sheetText, headerText, resultText, refusalText, drainText, programText}
@@ -22,8 +24,8 @@ unfolding allHold knownGround table anyBelow sumBelow countBelow firstBelow join
     beaten
     isSteepest steepestSum member score bestOf choice isEqual hasDescent isLevelZero levelPassAt levelPasses levels flatSum directionAt
     directions firstUnlevelled follow endsBy hasCode receiver countAt labelAt counts labels firstBadCode firstEndless joinPass
-    joinPasses joined isWet pondOf lowestCell isLowest ponds pondCount natural depth pondLevel pondCells pondVolume inRange askSize allHave
-    askSheets askWork askCodes fillCheck codesCheck drainCheck pondsCheck hexValue isTextByte number4 textGrid endsLine isShaped
+    joinPasses joined isWet pondOf lowestCell isLowest ponds pondCount natural depth pondLevel pondCells pondVolume opened isLevelFor inRange askSize allHave
+    askSheets askWork askCodes fillCheck codesCheck drainCheck pondsCheck askCulvert culvertCheck hexValue isTextByte number4 textGrid endsLine isShaped
     firstBadByte
     readCheck fromTwos toTwos textSheet upperDigit hexText sheetText headerText resultText refusalText drainText programText
 known-ground = refl

@@ -6,8 +6,8 @@ use grid::Counted;
 use grid::Dimensions;
 use grid::Grid;
 ghost use Rattle.grid.specs.Sheet.{gridOf};
-ghost use Rattle.grid.specs.Promises.{CountsPromise, DirectionsPromise, DrainPromise, FillPromise, LabelsPromise, PondsPromise};
-ghost use Rattle.grid.specs.Promises.{PourPointsPromise, ReadPromise, StartsPromise, WatershedsPromise};
+ghost use Rattle.grid.specs.Promises.{CountsPromise, CulvertPromise, DirectionsPromise, DrainPromise, FillPromise, LabelsPromise};
+ghost use Rattle.grid.specs.Promises.{PondsPromise, PourPointsPromise, ReadPromise, StartsPromise, WatershedsPromise};
 
 // Elevations to the filled sheet.
 #[no_mangle]
@@ -129,6 +129,41 @@ pub extern "C" fn tervuola_drain(
         cols: cols as usize,
     };
     drainage::drain(g, elevations, filled, codes, counts, labels, work)
+}
+
+// Elevations, a cell and a level to the four results of the sheet with the cell at that level.
+#[no_mangle]
+pub extern "C" fn tervuola_culvert(
+    rows: u32,
+    cols: u32,
+    elevations: &[i16],
+    cell: u32,
+    level: i16,
+    filled: &mut [i16],
+    codes: &mut [u8],
+    counts: &mut [u32],
+    labels: &mut [u32],
+    work: &mut [u32],
+) -> Answer
+    ensures { λ r. ⌜ CulvertPromise (gridOf rows cols) (now (elevations .entry)) cell level (now (filled .entry)) (now (filled .exit))
+        (now (codes .entry)) (now (codes .exit)) (now (counts .entry)) (now (counts .exit)) (now (labels .entry)) (now (labels .exit))
+        (now (work .entry)) (now (work .exit)) r ⌝ }
+{
+    let g = Grid {
+        rows: rows as usize,
+        cols: cols as usize,
+    };
+    culvert::culvert(
+        g,
+        elevations,
+        cell,
+        level,
+        filled,
+        codes,
+        counts,
+        labels,
+        work,
+    )
 }
 
 // Codes and starts to watersheds.

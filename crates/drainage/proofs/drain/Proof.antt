@@ -1,7 +1,8 @@
 use native.Mathlib.Omega.{arith}
 use lib.ListN.{length}
 use borrow.Author.Needs.{needs}
-use Rattle.drainage.proofs.Promise.{measured, promise-of-no, promise-of-yes}
+use Rattle.drainage.proofs.Four.{measured}
+use Rattle.drainage.proofs.Promise.{sized, promise-of-no, promise-of-yes}
 use Rattle.drainage.proofs.drain.Statement.{statement}
 use Rattle.drainage.proofs.drain.Tie as tie
 use Rattle.drainage.proofs.drain.Reads as reads
@@ -24,9 +25,10 @@ work-out-requires c κs =
     let s = c .before .before .before .before .before .before .before .before .before .before .before .before in
     let a = s .args in
     let k = c .before .before .before .before .before .before .before .check in
-    measured (a .g) (length (a .elevations .now)) (length (a .filled .now)) (length (a .codes .now)) (length (a .counts .now))
+    let z = sized (a .g) (length (a .elevations .now)) (length (a .filled .now)) (length (a .codes .now)) (length (a .counts .now))
     (length (a .labels .now))
-    (length (a .work .now)) (k .result) (k .ensures) (let t = c .before .before .before .before .before .if1 .left in omega arith)
+    (length (a .work .now)) (k .result) (k .ensures) (let t = c .before .before .before .before .before .if1 .left in omega arith) in
+    (measured (a .g) _ _ _ _ _ _ z, z .inputs-have .0)
 
 same-length : tie.Need-same-length
 same-length c = search needs

@@ -1,46 +1,29 @@
-use mathlib.Core.Path.{_∙_}
-use lib.ListN.{length}
-use Rattle.drainage.proofs.Steps.{routable, results}
+-- Load, drain what is loaded.
+use mathlib.Core.Path.{sym, subst}
+use native.Mathlib.Omega.{arith}
+use Rattle.fill.proofs.Words.{loaded-keys, loaded-sheet}
+use Rattle.drainage.specs.Results.{Measured}
+use Rattle.drainage.proofs.Four.{results-of}
 use borrow.Author.Needs.{needs}
 use Rattle.drainage.proofs.work_out.Statement.{statement}
 use Rattle.drainage.proofs.work_out.Tie as tie
-use Rattle.drainage.proofs.work_out.Reads as reads
-use Rattle.drainage.proofs.work_out.Lts as lts
-use Rattle.flow.proofs.directions_into.Reads as directions-into-reads
-use Rattle.drainage.proofs.route_results.Reads as route-results-reads
-use Rattle.fill.proofs.fill_into.Reads as fill-into-reads
 
-fill-into-requires : tie.Need-fill-into-requires
-fill-into-requires c κs = search needs
+load-requires : tie.Need-load-requires
+load-requires c κs =
+    let s = c .before .before .before .before .before in
+    let room = s .pre .0 .room in
+    let cells = s .pre .1 in
+    omega arith
 
-directions-into-requires : tie.Need-directions-into-requires
-directions-into-requires c κs = search needs
-
-mul-route-results : tie.Need-mul-route-results
-mul-route-results c = search needs
-
-sub-route-results : tie.Need-sub-route-results
-sub-route-results c = search needs
-
-part-route-results-start : tie.Need-part-route-results-start
-part-route-results-start c = search needs
-
-part-route-results-end : tie.Need-part-route-results-end
-part-route-results-end c = search needs
-
-route-results-requires : tie.Need-route-results-requires
-route-results-requires c κs =
-    let d = c .before .before .before .before .before .before .before .before in
-    let b = d .before .before .before .before .before .before .before in
-    let s = b .before .before .before .before .before .before .before in
+drain-loaded-requires : tie.Need-drain-loaded-requires
+drain-loaded-requires c κs =
+    let b = c .before .before .before .before .before .before .before in
+    let s = b .before .before .before .before .before .before in
     let a = s .args in
-    let fi = b .fill-into in
-    let di = d .directions-into in
-    routable (a .g) (a .elevations .now) (fi .last .1 .1 .0) (a .codes .now) (di .last .1 .1 .0)
-    (length (a .filled .now)) (length (a .codes .now)) (length (a .counts .now)) (length (a .labels .now)) (length (a .work .now))
-    (di .result)
-    (s .pre) (fi .ensures .1) (fi .ensures .0) (di .ensures .0) (di .ensures .1) (di .last .1 .1 .1 .0)
-    (di .kept .1 .1 .1 .0 ∙ fi .kept .1 .1 .1 .0)
+    let l = b .load in (
+      subst (Measured (a .g) _ _ _ _) (sym (l .kept .1 .0)) (s .pre .0),
+      loaded-keys (a .g) (a .elevations .now) (l .last .1 .0) (s .pre .1) (l .ensures .1) (l .ensures .0),
+    )
 
 same-length : tie.Need-same-length
 same-length c = search needs
@@ -59,34 +42,14 @@ same-length-5 c = search needs
 
 returns : tie.Need-returns
 returns c =
-    let o = c .before .before .before .before .before .before in
-    let d = o .before .before .before .before .before .before .before .before .before in
-    let b = d .before .before .before .before .before .before .before in
-    let s = b .before .before .before .before .before .before .before in
+    let d = c .before .before .before .before .before .before .before .before .before in
+    let b = d .before .before .before .before .before .before .before .before in
+    let s = b .before .before .before .before .before .before in
     let a = s .args in
-    let fi = b .fill-into in
-    let di = d .directions-into in
-    let ro = o .route-results in
-    results (a .g) (a .elevations .now) (fi .last .1 .1 .0) (a .codes .now) (di .last .1 .1 .0)
-    (length (a .filled .now)) (length (a .codes .now)) (length (a .counts .now)) (length (a .labels .now)) (length (a .work .now))
-    (di .result)
-    (s .pre) (fi .ensures .1) (fi .ensures .0) (di .ensures .0) (di .ensures .1)
-    (ro .last .1 .1 .0) (ro .last .1 .1 .1 .0) (ro .ensures .0) (ro .ensures .1)
+    let l = b .load in
+    results-of (loaded-sheet (a .g) (a .elevations .now) (l .last .1 .0) (s .pre .1) (l .ensures .1) (l .ensures .0)) (d .drain-loaded .ensures)
 
 pub work-out-spec : {M : Type 1} → statement M
 work-out-spec =
     tie.close
-    (tie.spec
-    fill-into-requires
-    directions-into-requires
-    mul-route-results
-    sub-route-results
-    part-route-results-start
-    part-route-results-end
-    route-results-requires
-    same-length
-    same-length-2
-    same-length-3
-    same-length-4
-    same-length-5
-    returns)
+    (tie.spec load-requires drain-loaded-requires same-length same-length-2 same-length-3 same-length-4 same-length-5 returns)

@@ -38,7 +38,7 @@ returns-2 c =
     let z = c .before .before .before .before .before .before .if1 .left in
     let f = c .before .before .before .fill-into in
     accepted-promise (a .g) (a .elevations .now) (a .filled .now) (a .work .now) (k .result) (k .ensures) z (f .last .1 .1 .0)
-    (f .last .1 .1 .1 .0) (f .ensures .0) (f .kept .1 .1 .1 .0)
+    (f .last .1 .1 .1 .0) (f .ensures) (f .kept .1 .1 .1 .0)
 
 pub fill-spec : {M : Type 1} → statement M
 fill-spec =

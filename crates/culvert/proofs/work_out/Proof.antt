@@ -1,0 +1,77 @@
+-- Load, open, drain what is loaded.
+use mathlib.Core.Path.{sym, _∙_, subst}
+use Prim.Native.Nat.{_<_}
+use native.Mathlib.Omega.{arith}
+use lib.ListN.{length}
+use borrow.Author.Needs.{needs}
+use Rattle.drainage.specs.Results.{Measured}
+use Rattle.drainage.proofs.Four.{results-of}
+use Rattle.culvert.proofs.Loaded.{keys-opened, sheet-opened}
+use Rattle.culvert.proofs.work_out.Statement.{statement}
+use Rattle.culvert.proofs.work_out.Tie as tie
+
+load-requires : tie.Need-load-requires
+load-requires c κs = search needs
+
+open-cell-requires : tie.Need-open-cell-requires
+open-cell-requires c κs = search needs
+
+drain-loaded-requires : tie.Need-drain-loaded-requires
+drain-loaded-requires c κs =
+    let b = c .before .before .before .before .before .before .before in
+    let d = b .before .before .before .before in
+    let s = d .before .before .before .before .before .before in
+    let a = s .args in
+    let o = b .open-cell in
+    let l = d .load in
+    let same = l .kept .1 .0 in
+    let on : a .cell < length (l .last .1 .0) = omega (arith, s .pre .0 .room, s .pre .1 .1 .0) in (
+      subst (Measured (a .g) _ _ _ _) (sym (o .kept .0 ∙ same)) (s .pre .0),
+      keys-opened (a .g) (a .elevations .now) (l .last .1 .0) (o .last .0) (a .cell) (a .key) (s .pre .1 .0) (l .ensures .1) (l .ensures .0)
+          on (o .ensures) (s .pre .1 .1 .1),
+    )
+
+same-length : tie.Need-same-length
+same-length c = search needs
+
+same-length-2 : tie.Need-same-length-2
+same-length-2 c = search needs
+
+same-length-3 : tie.Need-same-length-3
+same-length-3 c = search needs
+
+same-length-4 : tie.Need-same-length-4
+same-length-4 c = search needs
+
+same-length-5 : tie.Need-same-length-5
+same-length-5 c = search needs
+
+returns : tie.Need-returns
+returns c =
+    let e = c .before .before .before .before .before .before .before .before .before in
+    let b = e .before .before .before .before .before .before .before .before in
+    let d = b .before .before .before .before in
+    let s = d .before .before .before .before .before .before in
+    let a = s .args in
+    let o = b .open-cell in
+    let l = d .load in
+    let same = l .kept .1 .0 in
+    let on : a .cell < length (l .last .1 .0) = omega (arith, s .pre .0 .room, s .pre .1 .1 .0) in
+    results-of
+    (sheet-opened (a .g) (a .elevations .now) (l .last .1 .0) (o .last .0) (a .cell) (a .key) (s .pre .1 .0) (l .ensures .1)
+    (l .ensures .0) on (o .ensures))
+    (e .drain-loaded .ensures)
+
+pub work-out-spec : {M : Type 1} → statement M
+work-out-spec =
+    tie.close
+    (tie.spec
+    load-requires
+    open-cell-requires
+    drain-loaded-requires
+    same-length
+    same-length-2
+    same-length-3
+    same-length-4
+    same-length-5
+    returns)

@@ -1,0 +1,106 @@
+// The call `culvert` of document 02, "open a culvert under a road bank": elevations, a cell and a level to the four results of "the sheet
+// with that cell at that level". Questions 5 to 9 come first, then the culvert's own, 15 and 16. The elevations are loaded as keys into
+// the work buffer and opened there, and what is loaded is drained as in the one call: demand 3 holds with the opened sheet as the input.
+// The level goes by its key from the start, as elevations do.
+use grid::Answer;
+use grid::Grid;
+ghost use mathlib.Core.Path.{_≡_};
+ghost use Prim.Native.Nat.{_<_};
+ghost use lib.ListN.{length};
+ghost use Rattle.grid.specs.Sheet.{size};
+ghost use Rattle.grid.specs.Culvert.{opened};
+ghost use Rattle.grid.specs.Checks.{culvertCheck};
+ghost use Rattle.grid.specs.Promises.{CulvertPromise};
+ghost use Rattle.cells.specs.Keys.{levelOf};
+ghost use Rattle.drainage.specs.Results.{Measured, Results};
+
+// The questions, for the elevations and the lengths of the other buffers.
+fn ask(
+    g: Grid,
+    elevations: &[i16],
+    cell: u32,
+    key: u32,
+    filled: usize,
+    codes: usize,
+    counts: usize,
+    labels: usize,
+    work: usize,
+) -> Answer
+    ensures { λ r. ⌜ r ≡ culvertCheck g (now (elevations .entry)) cell (levelOf key) filled codes counts labels work ⌝ }
+{
+    let given = elevations.len();
+    let sized = checks::check(g, given, given, filled, codes, counts, labels, work);
+    if sized.number != 0 {
+        return sized;
+    }
+    opening::check(elevations, cell, key)
+}
+
+// The four results of the opened sheet, on buffers of the right lengths.
+fn work_out(
+    g: Grid,
+    elevations: &[i16],
+    cell: usize,
+    key: u32,
+    filled: &mut [i16],
+    codes: &mut [u8],
+    counts: &mut [u32],
+    labels: &mut [u32],
+    work: &mut [u32],
+)
+    requires { ⌜ Measured g (length (now filled)) (length (now codes)) (length (now counts)) (length (now labels)) (length (now work)) ⌝ }
+    requires { ⌜ length (now elevations) ≡ size g ⌝ }
+    requires { ⌜ cell < size g ⌝ }
+    requires { ⌜ key < 65536 ⌝ }
+    ensures { λ _. ⌜ Results g (opened (now (elevations .entry)) cell (levelOf key)) (now (filled .exit)) (now (codes .exit))
+        (now (counts .exit)) (now (labels .exit)) ⌝ }
+{
+    fill::load(elevations, work);
+    opening::open_cell(work, cell, key);
+    drainage::drain_loaded(g, filled, codes, counts, labels, work);
+}
+
+// The four results of the sheet with the cell at the level.
+pub fn culvert(
+    g: Grid,
+    elevations: &[i16],
+    cell: u32,
+    level: i16,
+    filled: &mut [i16],
+    codes: &mut [u8],
+    counts: &mut [u32],
+    labels: &mut [u32],
+    work: &mut [u32],
+) -> Answer
+    ensures { λ r. ⌜ CulvertPromise g (now (elevations .entry)) cell level (now (filled .entry)) (now (filled .exit))
+        (now (codes .entry)) (now (codes .exit)) (now (counts .entry)) (now (counts .exit)) (now (labels .entry)) (now (labels .exit))
+        (now (work .entry)) (now (work .exit)) r ⌝ }
+{
+    let key = cells::key(level);
+    let answer = ask(
+        g,
+        elevations,
+        cell,
+        key,
+        filled.len(),
+        codes.len(),
+        counts.len(),
+        labels.len(),
+        work.len(),
+    );
+    if answer.number != 0 {
+        return answer;
+    }
+    work_out(
+        g,
+        elevations,
+        cell as usize,
+        key,
+        filled,
+        codes,
+        counts,
+        labels,
+        work,
+    );
+    answer
+}
