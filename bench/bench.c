@@ -23,6 +23,29 @@ static void same(const char *what, const void *a, const void *b, size_t n)
     }
 }
 
+/* the four results of one side */
+struct four {
+    int16_t *filled;
+    uint8_t *codes;
+    uint32_t *counts, *labels;
+};
+
+static void clear(struct four r, size_t n)
+{
+    memset(r.filled, 1, 2 * n);
+    memset(r.codes, 1, n);
+    memset(r.counts, 1, 4 * n);
+    memset(r.labels, 1, 4 * n);
+}
+
+static void same_four(struct four a, struct four b, size_t n)
+{
+    same("the filled sheet", a.filled, b.filled, 2 * n);
+    same("a code", a.codes, b.codes, n);
+    same("a count", a.counts, b.counts, 4 * n);
+    same("a label", a.labels, b.labels, 4 * n);
+}
+
 static void accepted(tervuola_answer a)
 {
     if (a.number) {
@@ -62,6 +85,7 @@ int main(int argc, char **argv)
     uint32_t *ponds = get(4 * n), *cells = get(4 * n);
     int16_t *level = get(2 * n);
     uint64_t *volume = get(8 * n);
+    struct four expert = { f, code, acc, lab }, library = { f2, code2, acc2, lab2 };
     FILE *in = fopen(argv[1], "rb");
     if (!in || fread(z, 2, n, in) != n) { perror(argv[1]); return 2; }
     fclose(in);
@@ -107,30 +131,21 @@ int main(int argc, char **argv)
             double e = now();
             u[0] += b - a; u[1] += c - b; u[2] += d - c; u[3] += e - d;
         }
-        same("the filled sheet", f, f2, 2 * n);
-        same("a code", code, code2, n);
-        same("a count", acc, acc2, 4 * n);
-        same("a label", lab, lab2, 4 * n);
-        memset(f2, 1, 2 * n); memset(code2, 1, n); memset(acc2, 1, 4 * n); memset(lab2, 1, 4 * n);
+        same_four(expert, library, n);
+        clear(library, n);
         for (int k = 0; k < times; k++) {
             double a = now();
             accepted(tervuola_drain(s.rows, s.cols, z, n, f2, n, code2, n, acc2, n, lab2, n, work, work_len));
             u[4] += now() - a;
         }
-        same("the filled sheet of the one call", f, f2, 2 * n);
-        same("a code of the one call", code, code2, n);
-        same("a count of the one call", acc, acc2, 4 * n);
-        same("a label of the one call", lab, lab2, 4 * n);
+        same_four(expert, library, n);
         for (int k = 0; k < B_N; k++) least(&ours[k], u[k]);
-        memset(f2, 1, 2 * n); memset(code2, 1, n); memset(acc2, 1, 4 * n); memset(lab2, 1, 4 * n);
+        clear(library, n);
         double o = now();
         for (int k = 0; k < times; k++)
             accepted(tervuola_culvert(s.rows, s.cols, z, n, cell, z[cell], f2, n, code2, n, acc2, n, lab2, n, work, work_len));
         least(&opened, now() - o);
-        same("the filled sheet of the culvert", f, f2, 2 * n);
-        same("a code of the culvert", code, code2, n);
-        same("a count of the culvert", acc, acc2, 4 * n);
-        same("a label of the culvert", lab, lab2, 4 * n);
+        same_four(expert, library, n);
         tervuola_counted found = { 0, 0, 0 };
         double a = now();
         for (int k = 0; k < times; k++)

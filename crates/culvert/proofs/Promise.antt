@@ -20,7 +20,8 @@ use Rattle.drainage.specs.Results.{Measured, Results}
 use Rattle.drainage.proofs.Four.{measured, results-of, four-of-no, four-of-yes}
 
 -- 15 and 16
-culvert-gate : (e : List ℤ) (cell : ℕ) (level : ℤ) → Gate (askCulvert e cell level) ((isData e cell ≡ true) × (isLevelFor e cell level ≡ true))
+culvert-gate : (e : List ℤ) (cell : ℕ) (level : ℤ)
+    → Gate (askCulvert e cell level) ((isData e cell ≡ true) × (isLevelFor e cell level ≡ true))
 unfolding askCulvert
 culvert-gate e cell level = both (one (isData e cell) 15 cell (omega arith)) (one (isLevelFor e cell level) 16 cell (omega arith))
 
@@ -56,8 +57,8 @@ module _ (g : Grid) (e : List ℤ) (cell : ℕ) (level : ℤ) (f k a l w : ℕ) 
     cell-on = on-sheet g e (has-lengths .1) cell (yes .1 .0)
 
 -- the level is asked by its key
-module _ (g : Grid) (e : List ℤ) (cell : ℕ) (level : ℤ) (f₀ : List ℤ) (k₀ a₀ l₀ w₀ : List ℕ) (key : ℕ) (is : levelOf key ≡ level) (r : Answer)
-    (asked : r ≡ culvertCheck g e cell (levelOf key) (length f₀) (length k₀) (length a₀) (length l₀) (length w₀)) where
+module _ (g : Grid) (e : List ℤ) (cell : ℕ) (level : ℤ) (f₀ : List ℤ) (k₀ a₀ l₀ w₀ : List ℕ) (key : ℕ) (is : levelOf key ≡ level)
+    (r : Answer) (asked : r ≡ culvertCheck g e cell (levelOf key) (length f₀) (length k₀) (length a₀) (length l₀) (length w₀)) where
   answered : r ≡ culvertCheck g e cell level (length f₀) (length k₀) (length a₀) (length l₀) (length w₀)
   answered = rw is at asked
 

@@ -12,8 +12,8 @@ use Rattle.grid.specs.Routes.{follow, endsBy, hasCode, receiver, countAt, label
 use Rattle.grid.specs.Joined.{joinPass, joinPasses, joined}
 use Rattle.grid.specs.Ponds.{isWet, pondOf, lowestCell, isLowest, ponds, pondCount, natural, depth, pondLevel, pondCells, pondVolume}
 use Rattle.grid.specs.Culvert.{opened, isLevelFor}
-use Rattle.grid.specs.Checks.{askCulvert, culvertCheck}
-use Rattle.grid.specs.Checks.{inRange, askSize, allHave, askSheets, askWork, askCodes, fillCheck, codesCheck, drainCheck, pondsCheck}
+use Rattle.grid.specs.Checks.{inRange, askSize, allHave, askSheets, askWork, askCodes, askCulvert, fillCheck, codesCheck, drainCheck}
+use Rattle.grid.specs.Checks.{pondsCheck, culvertCheck}
 use Rattle.grid.specs.Frames.{hexValue, isTextByte, number4, textGrid, endsLine, isShaped, firstBadByte, readCheck, fromTwos, toTwos}
 use Rattle.grid.specs.Frames.{textSheet, upperDigit, hexText, sheetText, headerText, resultText, refusalText, drainText, programText}
 use Rattle.known_ground.specs.Cases.{allHold, knownGround}
@@ -21,11 +21,10 @@ use Rattle.known_ground.specs.Cases.{allHold, knownGround}
 pub known-ground : allHold knownGround ≡ true
 unfolding allHold knownGround table anyBelow sumBelow countBelow firstBelow joinBelow has lastOf void top eqZ lower higher isData
     positionOf moved cellAt neighbour leavesAt isOutlet outletCode startAt lowestTo passAt passes filled dropTo squaredDistance beats
-    beaten
-    isSteepest steepestSum member score bestOf choice isEqual hasDescent isLevelZero levelPassAt levelPasses levels flatSum directionAt
-    directions firstUnlevelled follow endsBy hasCode receiver countAt labelAt counts labels firstBadCode firstEndless joinPass
-    joinPasses joined isWet pondOf lowestCell isLowest ponds pondCount natural depth pondLevel pondCells pondVolume opened isLevelFor inRange askSize allHave
-    askSheets askWork askCodes fillCheck codesCheck drainCheck pondsCheck askCulvert culvertCheck hexValue isTextByte number4 textGrid endsLine isShaped
-    firstBadByte
-    readCheck fromTwos toTwos textSheet upperDigit hexText sheetText headerText resultText refusalText drainText programText
+    beaten isSteepest steepestSum member score bestOf choice isEqual hasDescent isLevelZero levelPassAt levelPasses levels flatSum
+    directionAt directions firstUnlevelled follow endsBy hasCode receiver countAt labelAt counts labels firstBadCode firstEndless joinPass
+    joinPasses joined isWet pondOf lowestCell isLowest ponds pondCount natural depth pondLevel pondCells pondVolume opened isLevelFor
+    inRange askSize allHave askSheets askWork askCodes fillCheck codesCheck drainCheck pondsCheck askCulvert culvertCheck hexValue
+    isTextByte number4 textGrid endsLine isShaped firstBadByte readCheck fromTwos toTwos textSheet upperDigit hexText sheetText headerText
+    resultText refusalText drainText programText
 known-ground = refl

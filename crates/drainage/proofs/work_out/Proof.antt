@@ -47,7 +47,8 @@ returns c =
     let s = b .before .before .before .before .before .before in
     let a = s .args in
     let l = b .load in
-    results-of (loaded-sheet (a .g) (a .elevations .now) (l .last .1 .0) (s .pre .1) (l .ensures .1) (l .ensures .0)) (d .drain-loaded .ensures)
+    results-of (loaded-sheet (a .g) (a .elevations .now) (l .last .1 .0) (s .pre .1) (l .ensures .1) (l .ensures .0))
+    (d .drain-loaded .ensures)
 
 pub work-out-spec : {M : Type 1} → statement M
 work-out-spec =
