@@ -46,25 +46,6 @@ pub fn drain_loaded(
     route_results(g, codes, counts, labels, &mut work[half..]);
 }
 
-// The same for the sheet `elevations`.
-fn work_out(
-    g: Grid,
-    elevations: &[i16],
-    filled: &mut [i16],
-    codes: &mut [u8],
-    counts: &mut [u32],
-    labels: &mut [u32],
-    work: &mut [u32],
-)
-    requires { ⌜ Measured g (length (now filled)) (length (now codes)) (length (now counts)) (length (now labels)) (length (now work)) ⌝ }
-    requires { ⌜ length (now elevations) ≡ size g ⌝ }
-    ensures { λ _. ⌜ Results g (now (elevations .entry)) (now (filled .exit)) (now (codes .exit)) (now (counts .exit))
-        (now (labels .exit)) ⌝ }
-{
-    fill::load(elevations, work);
-    drain_loaded(g, filled, codes, counts, labels, work);
-}
-
 // "One call works filled sheet, codes, counts and labels from elevations."
 pub fn drain(
     g: Grid,
@@ -92,6 +73,7 @@ pub fn drain(
     if answer.number != 0 {
         return answer;
     }
-    work_out(g, elevations, filled, codes, counts, labels, work);
+    fill::load(elevations, work);
+    drain_loaded(g, filled, codes, counts, labels, work);
     answer
 }

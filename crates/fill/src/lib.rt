@@ -2,8 +2,8 @@
 // keys into the work buffer, their cells sorted by key, flooded through that order, and the levels written as elevations. Proved by the
 // certificate of fill_laws: what the flood leaves is an outlet's own elevation, no cell above both its own and a neighbour's level, and
 // the place in the queue bounds the passes that a cell needs. The questions 5 to 9 come first; only the work buffer is written before the
-// last loop. `load`, `fill_words`, `unload` and `fill_loaded` are steps of their own: other calls fill a sheet that the keys in the work
-// buffer spell.
+// last loop. `load`, `fill_words` and `fill_loaded` are steps of their own: other calls fill a sheet that the keys in the work buffer
+// spell.
 use grid::Answer;
 use grid::Grid;
 ghost use mathlib.Core.Path.{_≡_};
@@ -46,7 +46,7 @@ pub fn fill_words(g: Grid, work: &mut [u32])
 }
 
 // Puts the levels of the flood, above the keys, as elevations into `filled`.
-pub fn unload(n: usize, work: &[u32], filled: &mut [i16])
+fn unload(n: usize, work: &[u32], filled: &mut [i16])
     requires { ⌜ n ≤ length (now work) ⌝ }
     requires { ⌜ length (now filled) ≡ n ⌝ }
     ensures { λ r. ⌜ ((c : ℕ) → c < n → at (now (filled .exit)) c ≡ levelOf (getD (now (work .entry)) c 0 / 65536)) ⌝ }
@@ -72,19 +72,6 @@ pub fn fill_loaded(g: Grid, filled: &mut [i16], work: &mut [u32])
     unload(n, work, filled);
 }
 
-// Fills the sheet `elevations` into `filled`.
-fn fill_into(g: Grid, elevations: &[i16], filled: &mut [i16], work: &mut [u32])
-    requires { ⌜ size g < 2 ^ 24 ⌝ }
-    requires { ⌜ g .cols < 2 ^ 24 ⌝ }
-    requires { ⌜ length (now elevations) ≡ size g ⌝ }
-    requires { ⌜ length (now filled) ≡ size g ⌝ }
-    requires { ⌜ 4 * size g ≤ length (now work) ⌝ }
-    ensures { λ r. ⌜ now (filled .exit) ≡ filled' g (now (elevations .entry)) ⌝ }
-{
-    load(elevations, work);
-    fill_loaded(g, filled, work);
-}
-
 // Question 5 to 9, and after a yes the filled sheet.
 pub fn fill(g: Grid, elevations: &[i16], filled: &mut [i16], work: &mut [u32]) -> Answer
     ensures { λ r. ⌜ FillPromise g (now (elevations .entry)) (now (filled .entry)) (now (filled .exit)) (now (work .entry))
@@ -97,6 +84,7 @@ pub fn fill(g: Grid, elevations: &[i16], filled: &mut [i16], work: &mut [u32]) -
     if answer.number != 0 {
         return answer;
     }
-    fill_into(g, elevations, filled, work);
+    load(elevations, work);
+    fill_loaded(g, filled, work);
     answer
 }

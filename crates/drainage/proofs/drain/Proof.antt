@@ -1,34 +1,48 @@
+-- The answer of the checks stands beside a no; after a yes load, and drain what is loaded.
+use mathlib.Core.Path.{sym, _∙_, subst}
 use native.Mathlib.Omega.{arith}
 use lib.ListN.{length}
 use borrow.Author.Needs.{needs}
-use Rattle.drainage.proofs.Four.{measured}
+use Rattle.fill.proofs.Words.{loaded-keys, loaded-sheet}
+use Rattle.drainage.specs.Results.{Measured}
+use Rattle.drainage.proofs.Four.{measured, results-of}
 use Rattle.drainage.proofs.Promise.{sized, promise-of-no, promise-of-yes}
 use Rattle.drainage.proofs.drain.Statement.{statement}
 use Rattle.drainage.proofs.drain.Tie as tie
-use Rattle.drainage.proofs.drain.Reads as reads
-use Rattle.drainage.proofs.drain.Lts as lts
-use Rattle.checks.proofs.check.Reads as check-reads
-use Rattle.drainage.proofs.work_out.Reads as work-out-reads
 
 check-requires : tie.Need-check-requires
 check-requires c κs = search needs
 
 returns : tie.Need-returns
 returns c =
-    let s = c .before .before .before .before .before .before .before in
-    let a = s .args in
+    let k = c .before .before .check in
+    let a = c .before .before .before .before .before .before .before .args in
     promise-of-no (a .g) (a .elevations .now) (a .filled .now) (a .codes .now) (a .counts .now) (a .labels .now) (a .work .now)
-    (c .before .before .check .result) (c .before .before .check .ensures) (λ z. let t = c .if1 .taken in omega arith)
+    (k .result) (k .ensures) (c .if1 .taken)
 
-work-out-requires : tie.Need-work-out-requires
-work-out-requires c κs =
-    let s = c .before .before .before .before .before .before .before .before .before .before .before .before in
-    let a = s .args in
-    let k = c .before .before .before .before .before .before .before .check in
+load-requires : tie.Need-load-requires
+load-requires c κs =
+    let y = c .before in
+    let k = y .before .before .check in
+    let a = y .before .before .before .before .before .before .before .args in
     let z = sized (a .g) (length (a .elevations .now)) (length (a .filled .now)) (length (a .codes .now)) (length (a .counts .now))
-    (length (a .labels .now))
-    (length (a .work .now)) (k .result) (k .ensures) (let t = c .before .before .before .before .before .if1 .left in omega arith) in
-    (measured (a .g) _ _ _ _ _ _ z, z .inputs-have .0)
+    (length (a .labels .now)) (length (a .work .now)) (k .result) (k .ensures) (y .if1 .left) in
+    let cells = z .inputs-have .0 in
+    let room = z .room in
+    omega arith
+
+drain-loaded-requires : tie.Need-drain-loaded-requires
+drain-loaded-requires c κs =
+    let b = c .before .before .before .before .before .before .before in
+    let l = b .load in
+    let y = b .before .before in
+    let k = y .before .before .check in
+    let a = y .before .before .before .before .before .before .before .args in
+    let z = sized (a .g) (length (a .elevations .now)) (length (a .filled .now)) (length (a .codes .now)) (length (a .counts .now))
+    (length (a .labels .now)) (length (a .work .now)) (k .result) (k .ensures) (y .if1 .left) in (
+      subst (Measured (a .g) _ _ _ _) (sym (l .kept .1 .0)) (measured (a .g) _ _ _ _ _ _ z),
+      loaded-keys (a .g) (a .elevations .now) (l .last .1 .0) (z .inputs-have .0) (l .ensures .1) (l .ensures .0),
+    )
 
 same-length : tie.Need-same-length
 same-length c = search needs
@@ -47,16 +61,19 @@ same-length-5 c = search needs
 
 returns-2 : tie.Need-returns-2
 returns-2 c =
-    let b = c .before .before .before .before .before .before .before .before .before in
-    let s = b .before .before .before .before .before .before .before .before .before .before .before .before .before in
-    let a = s .args in
-    let k = b .before .before .before .before .before .before .before .before .check in
-    let w = b .work-out in
+    let d = c .before .before .before .before .before .before .before .before .before in
+    let w = d .drain-loaded in
+    let b = d .before .before .before .before .before .before .before .before in
+    let l = b .load in
+    let y = b .before .before in
+    let k = y .before .before .check in
+    let a = y .before .before .before .before .before .before .before .args in
+    let z = sized (a .g) (length (a .elevations .now)) (length (a .filled .now)) (length (a .codes .now)) (length (a .counts .now))
+    (length (a .labels .now)) (length (a .work .now)) (k .result) (k .ensures) (y .if1 .left) in
     promise-of-yes (a .g) (a .elevations .now) (a .filled .now) (a .codes .now) (a .counts .now) (a .labels .now) (a .work .now)
-    (k .result) (k .ensures)
-    (let t = b .before .before .before .before .before .before .if1 .left in omega arith)
-    (w .last .1 .1 .0) (w .last .1 .1 .1 .0) (w .last .1 .1 .1 .1 .0) (w .last .1 .1 .1 .1 .1 .0) (w .last .1 .1 .1 .1 .1 .1 .0)
-    (w .ensures) (w .kept .1 .1 .1 .1 .1 .1 .0)
+    (k .result) (k .ensures) (y .if1 .left) _ _ _ _ _
+    (results-of (loaded-sheet (a .g) (a .elevations .now) (l .last .1 .0) (z .inputs-have .0) (l .ensures .1) (l .ensures .0)) (w .ensures))
+    (w .kept .1 .1 .1 .1 .1 .0 ∙ l .kept .1 .0)
 
 pub drain-spec : {M : Type 1} → statement M
 drain-spec =
@@ -64,7 +81,8 @@ drain-spec =
     (tie.spec
     check-requires
     returns
-    work-out-requires
+    load-requires
+    drain-loaded-requires
     same-length
     same-length-2
     same-length-3
