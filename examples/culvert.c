@@ -7,7 +7,7 @@
 #include <stdlib.h>
 
 enum { CELLS = TERVUOLA_TEXT_CELLS };
-static int16_t elevations[CELLS], filled[CELLS];
+static int16_t elevations[CELLS], filled[CELLS], plain[CELLS];
 static uint8_t codes[CELLS];
 static uint32_t counts[CELLS], labels[CELLS], work[4 * CELLS];
 
@@ -17,10 +17,10 @@ static int refused(uint32_t number, uint32_t place)
     return 1;
 }
 
-static void print_filled(const char *title, uint32_t rows, uint32_t cols)
+static void print_sheet(const char *title, const int16_t *sheet, uint32_t rows, uint32_t cols)
 {
     printf("%s\n", title);
-    for (size_t c = 0; c < (size_t)rows * cols; c++) printf("%7d%s", filled[c], (c + 1) % cols ? "" : "\n");
+    for (size_t c = 0; c < (size_t)rows * cols; c++) printf("%7d%s", sheet[c], (c + 1) % cols ? "" : "\n");
 }
 
 /* a whole number from low to high, and nothing behind it */
@@ -43,12 +43,12 @@ int main(int argc, char **argv)
     tervuola_dimensions d = tervuola_read(text, length, elevations, CELLS);
     if (d.number != TERVUOLA_OK) return refused(d.number, d.place);
     size_t n = (size_t)d.rows * d.cols;
-    tervuola_answer a = tervuola_fill(d.rows, d.cols, elevations, n, filled, n, work, 4 * CELLS);
+    tervuola_answer a = tervuola_fill(d.rows, d.cols, elevations, n, plain, n, work, 4 * CELLS);
     if (a.number != TERVUOLA_OK) return refused(a.number, a.place);
-    print_filled("without the culvert:", d.rows, d.cols);
     a = tervuola_culvert(d.rows, d.cols, elevations, n, (uint32_t)cell, (int16_t)level, filled, n, codes, n, counts, n, labels, n, work, 4 * CELLS);
     if (a.number != TERVUOLA_OK) return refused(a.number, a.place);
-    print_filled("with it:", d.rows, d.cols);
-    printf("cells that drain through cell %ld: %u, all out at cell %u\n", cell, (unsigned)counts[cell], (unsigned)labels[cell] - 1);
+    print_sheet("filled, without the culvert:", plain, d.rows, d.cols);
+    print_sheet("filled, with it:", filled, d.rows, d.cols);
+    printf("other cells that drain through cell %ld: %u, out at cell %u\n", cell, (unsigned)counts[cell], (unsigned)labels[cell] - 1);
     return 0;
 }

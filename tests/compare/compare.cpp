@@ -1,5 +1,5 @@
-// Every call of libtervuola.a against the second program as it is after request 2, on its sheets, on sheets of ponds, on random codes and
-// on wrong lengths.
+// Every call of libtervuola.a against the second program as it is after request 2, on its sheets, on sheets of ponds, on random codes,
+// on cells and levels that are and are not there, and on wrong lengths.
 //   compare ROUNDS [SEED]      sheets up to 40 by 40
 //   compare big KIND SIDE      one large sheet, by the second program's fast layer
 // A result buffer is lent with guard elements on both sides, and holds a pattern before the call; a no must leave it, and the work buffer
@@ -215,7 +215,7 @@ static u32 some_cell(gen::Rng &g, const V<i16> &e) {
   return cell;
 }
 static i16 some_level(gen::Rng &g, i16 z) {
-  if (g.chance(60)) // within the digger's reach, as far down as there is a number
+  if (g.chance(60)) // below, as far down as there is a number
     return (i16)std::max<i64>(-32767, (i64)z - (i64)(g.chance(70) ? 1 + g.below(9) : 1 + g.below(65535)));
   if (g.chance(50))
     return z;
@@ -398,7 +398,8 @@ static int rounds(u64 count, u64 seed) {
   printf("compare: %llu rounds, %llu comparisons, all equal\n", (unsigned long long)count, (unsigned long long)checks);
   printf("compare: up to %llu ponds; %llu cells opened to a lower level, %llu of them on the border, %llu that lower the filled sheet elsewhere\n",
          (unsigned long long)most_ponds, (unsigned long long)opened_lower, (unsigned long long)opened_border, (unsigned long long)opened_banks);
-  bool all = every_answer("ponds", {0, 5, 6, 7, 8, 9, 14});
+  bool all = every_answer("drain", {0, 5, 6, 7, 8, 9});
+  all = every_answer("ponds", {0, 5, 6, 7, 8, 9, 14}) && all;
   all = every_answer("culvert", {0, 5, 6, 7, 8, 9, 15, 16}) && all;
   return checks && all && opened_border && opened_banks ? 0 : 1;
 }

@@ -1,4 +1,4 @@
-// Demand 3 by brute force on tiny sheets, as a test of the statement: every chain without repeats, every rival sheet over three levels.
+// Demand 3 by brute force on tiny sheets, as a test of the statement: every chain without repeats, every rival sheet from the input up to 2.
 // It looks only at the four results of tervuola_drain and tervuola_culvert and at document 01's sentences, with the elevations handed in as
 // the input, and with the opened sheet.
 #include "../../include/tervuola.h"
@@ -126,7 +126,7 @@ static void judge(const Four &four) {
   for (size_t i = 0; i < n; i++)
     hold(!data((int)i) || counts[i] == through[i], "the count");
   hold(drains(filled), "a never-rising chain");
-  vector<int16_t> f(e); // every rival sheet over the levels 0, 1, 2
+  vector<int16_t> f(e); // every rival sheet from the input up to 2
   for (;;) {
     bool above = true;
     for (size_t i = 0; i < n && above; i++)
@@ -146,19 +146,21 @@ static void judge(const Four &four) {
   }
 }
 
-static void sheet() {
+static Four drained() {
   size_t n = e.size();
   Four r(n);
   tervuola_answer a = tervuola_drain((uint32_t)rows, (uint32_t)cols, e.data(), n, r.filled.data(), n, r.codes.data(), n, r.counts.data(), n,
                                      r.labels.data(), n, r.work.data(), 4 * n);
   hold(a.number == 0, "acceptance");
-  judge(r);
+  return r;
 }
 
-// the call has the elevations as they were handed in, and is judged on the opened sheet; both stay as they were
+// culverts in all, and those at an inner cell and at an outlet that lower the filled sheet at another cell
+static unsigned long opened = 0, inner_banks = 0, outlet_banks = 0;
+// the call has the elevations as they were handed in, which stay as they were, and is judged on the opened sheet
 static void opened_sheet(size_t cell, int16_t level) {
   size_t n = e.size();
-  Four r(n);
+  Four plain = drained(), r(n);
   vector<int16_t> given(e), kept(e);
   tervuola_answer a = tervuola_culvert((uint32_t)rows, (uint32_t)cols, given.data(), n, (uint32_t)cell, level, r.filled.data(), n, r.codes.data(), n,
                                        r.counts.data(), n, r.labels.data(), n, r.work.data(), 4 * n);
@@ -166,12 +168,16 @@ static void opened_sheet(size_t cell, int16_t level) {
   hold(given == kept, "the sheet handed in");
   e[cell] = level;
   judge(r);
+  opened++;
+  plain.filled[cell] = r.filled[cell];
+  if (plain.filled != r.filled)
+    (outlet((int)cell) ? outlet_banks : inner_banks)++;
   e = kept;
 }
 
 int main() {
   std::mt19937 g(1);
-  unsigned long sheets = 0, opened = 0;
+  unsigned long sheets = 0;
   for (int size = 0; size < 4; size++) { // all sheets of these sizes
     static const int sides[4][2] = {{1, 1}, {1, 4}, {2, 2}, {2, 3}};
     rows = sides[size][0], cols = sides[size][1];
@@ -184,12 +190,12 @@ int main() {
       unsigned long v = k;
       for (auto &x : e)
         x = v % 4 == 3 ? (int16_t)TERVUOLA_VOID : (int16_t)(v % 4), v /= 4;
-      sheet();
+      judge(drained());
       sheets++;
-      for (size_t c = 0; c < n; c++) // and each with every cell opened to every level, where there are few
+      for (size_t c = 0; c < n; c++) // and each with every cell opened to every level, or one in eight of these
         for (int level = -1; data((int)c) && level <= e[c]; level++)
           if (n <= 4 || g() % 8 == 0)
-            opened_sheet(c, (int16_t)level), opened++;
+            opened_sheet(c, (int16_t)level);
     }
   }
   for (int k = 0; k < 1500; k++) { // some of these
@@ -202,12 +208,24 @@ int main() {
       for (int q = 1; q + 1 < cols; q++)
         if (g() % 2)
           e[(size_t)(r * cols + q)] = 0;
-    sheet();
+    judge(drained());
     sheets++;
     size_t c = g() % e.size();
     if (data((int)c))
-      opened_sheet(c, (int16_t)((int)(g() % (unsigned)(e[c] + 2)) - 1)), opened++;
+      opened_sheet(c, (int16_t)((int)(g() % (unsigned)(e[c] + 2)) - 1));
   }
-  printf("demand 3: %lu facts on %lu tiny sheets, and on %lu opened ones\n", facts, sheets, opened);
-  return 0;
+  for (int k = 0; k < 100; k++) { // an inner cell as the bank of the other one, which lies deeper and has a high border
+    rows = k % 2 ? 3 : 4, cols = k % 2 ? 4 : 3;
+    e.assign(12, 2);
+    size_t hollow = k % 2 ? 5 : 4, bank = k % 2 ? 6 : 7, out = k % 2 ? 7 : 10; // in a row, or in a column
+    e[hollow] = 0;
+    e[bank] = (int16_t)(1 + g() % 2);
+    e[out] = (int16_t)(g() % 2);
+    if (g() % 4 == 0)
+      e[0] = TERVUOLA_VOID;
+    opened_sheet(bank, (int16_t)((int)(g() % 2) - 1));
+  }
+  printf("demand 3: %lu facts on %lu tiny sheets, and on %lu opened ones, %lu of them through an inner bank, %lu at an outlet\n", facts, sheets, opened,
+         inner_banks, outlet_banks);
+  return inner_banks && outlet_banks ? 0 : 1;
 }

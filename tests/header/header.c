@@ -11,6 +11,16 @@
         }                                                \
     } while (0)
 
+/* the types of a cell and of its level, to the letter: a declaration that differs is refused */
+#ifdef __cplusplus
+extern "C" {
+#endif
+tervuola_answer tervuola_culvert(uint32_t, uint32_t, const int16_t *, size_t, uint32_t, int16_t, int16_t *, size_t, uint8_t *, size_t,
+                                 uint32_t *, size_t, uint32_t *, size_t, uint32_t *, size_t);
+#ifdef __cplusplus
+}
+#endif
+
 /* the macro is a constant: it can be an array's length */
 static uint32_t work[TERVUOLA_WORK_SIZE(3, 2 + 1)];
 
@@ -31,7 +41,7 @@ int main(void)
     EXPECT(TERVUOLA_VOID == -32768);
     EXPECT(TERVUOLA_MAX_SIDE == 4000);
     EXPECT(sizeof(tervuola_answer) == 8 && sizeof(tervuola_counted) == 12 && sizeof(tervuola_dimensions) == 16);
-    /* the types of the buffers, of a cell and of its level; nothing is called under sizeof */
+    /* the types of the buffers; nothing is called under sizeof */
     EXPECT(sizeof tervuola_ponds(3, 3, elevations, 9, numbers, 9, level, 2, cells, 2, volume, 2, work, 36) == sizeof(tervuola_counted));
     EXPECT(sizeof tervuola_culvert(3, 3, elevations, 9, numbers[0], level[0], filled, 9, codes, 9, numbers, 9, numbers, 9, work, 36)
            == sizeof(tervuola_answer));

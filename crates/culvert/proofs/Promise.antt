@@ -1,5 +1,5 @@
 -- The questions of the culvert as one gate, and the promise of the call beside a no and after a yes.
-use mathlib.Core.Path.{_≡_, refl, sym, _∙_, ap}
+use mathlib.Core.Path.{_≡_, refl, _∙_, ap}
 use mathlib.Core.Bool.{true}
 use mathlib.Core.List.{List, [], _∷_}
 use Prim.Native.Nat.{ℕ, _<_}
@@ -17,6 +17,7 @@ use Rattle.cells.specs.Keys.{levelOf}
 use Rattle.checks.proofs.Gate.{Gate, one, both, passed, answered-no, answered-yes}
 use Rattle.checks.proofs.Asked.{Sized, check-gate, four-results}
 use Rattle.drainage.specs.Results.{Measured, Results}
+use Rattle.drainage.proofs.Promise.{asked}
 use Rattle.drainage.proofs.Four.{measured, results-of, four-of-no, four-of-yes}
 
 -- 15 and 16
@@ -32,8 +33,7 @@ module _ (g : Grid) (e : List ℤ) (cell : ℕ) (level : ℤ) (f k a l w : ℕ) 
   before-15 = check-gate g (length e ∷ []) (f ∷ k ∷ a ∷ l ∷ []) w
 
   -- `check` answers 5 to 9, and what 15 and 16 answer is the answer after a yes
-  module _ (r : Answer)
-      (answered : r ≡ askSheets g (length e ∷ length e ∷ []) (f ∷ k ∷ a ∷ l ∷ []) (askWork g w accepted)) where
+  module _ (r : Answer) (answered : r ≡ asked g (length e) f k a l w) where
     first : r ≡ askSheets g (length e ∷ []) (f ∷ k ∷ a ∷ l ∷ []) (askWork g w accepted)
     first = answered ∙ four-results g (length e) f k a l (askWork g w accepted)
 
@@ -41,26 +41,25 @@ module _ (g : Grid) (e : List ℤ) (cell : ℕ) (level : ℤ) (f k a l w : ℕ) 
     unfolding culvertCheck
     asked-no n = answered-no before-15 first n (askCulvert e cell level accepted)
 
-    pub asked-on : r .number ≡ 0 → (s : Answer) → s ≡ askCulvert e cell level accepted → s ≡ culvertCheck g e cell level f k a l w
+    pub asked-yes : r .number ≡ 0 → (s : Answer) → s ≡ askCulvert e cell level accepted → s ≡ culvertCheck g e cell level f k a l w
     unfolding culvertCheck
-    asked-on z s q = q ∙ answered-yes before-15 first z (askCulvert e cell level accepted)
+    asked-yes z s q = q ∙ answered-yes before-15 first z (askCulvert e cell level accepted)
 
   module _ (r : Answer) (answered : r ≡ culvertCheck g e cell level f k a l w) (z : r .number ≡ 0) where
     yes : Sized g (length e ∷ []) (f ∷ k ∷ a ∷ l ∷ []) w × ((isData e cell ≡ true) × (isLevelFor e cell level ≡ true))
     unfolding culvertCheck
     yes = passed (both before-15 (culvert-gate e cell level)) answered z .fact
 
-    pub has-lengths : Measured g f k a l w × (length e ≡ size g)
-    has-lengths = (measured g (length e) f k a l w (yes .0), yes .0 .inputs-have .0)
-
-    pub cell-on : cell < size g
-    cell-on = on-sheet g e (has-lengths .1) cell (yes .1 .0)
+    pub fits : Measured g f k a l w × (length e ≡ size g) × (cell < size g)
+    fits =
+        let cells = yes .0 .inputs-have .0 in
+        (measured g (length e) f k a l w (yes .0), cells, on-sheet g e cells cell (yes .1 .0))
 
 -- the level is asked by its key
 module _ (g : Grid) (e : List ℤ) (cell : ℕ) (level : ℤ) (f₀ : List ℤ) (k₀ a₀ l₀ w₀ : List ℕ) (key : ℕ) (is : levelOf key ≡ level)
-    (r : Answer) (asked : r ≡ culvertCheck g e cell (levelOf key) (length f₀) (length k₀) (length a₀) (length l₀) (length w₀)) where
+    (r : Answer) (by-key : r ≡ culvertCheck g e cell (levelOf key) (length f₀) (length k₀) (length a₀) (length l₀) (length w₀)) where
   answered : r ≡ culvertCheck g e cell level (length f₀) (length k₀) (length a₀) (length l₀) (length w₀)
-  answered = rw is at asked
+  answered = rw is at by-key
 
   -- a no: every list as at entry
   pub promise-of-no : (r .number ≡ 0 → ⊥) → CulvertPromise g e cell level f₀ f₀ k₀ k₀ a₀ a₀ l₀ l₀ w₀ w₀ r

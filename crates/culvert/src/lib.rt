@@ -33,11 +33,11 @@ fn ask(
     if sized.number != 0 {
         return sized;
     }
-    opening::check(elevations, cell, key)
+    culvert_cell::check(elevations, cell, key)
 }
 
 // The four results of the opened sheet, on buffers of the right lengths.
-fn work_out(
+fn drain_opened(
     g: Grid,
     elevations: &[i16],
     cell: usize,
@@ -56,7 +56,7 @@ fn work_out(
         (now (counts .exit)) (now (labels .exit)) ⌝ }
 {
     fill::load(elevations, work);
-    opening::open_cell(work, cell, key);
+    culvert_cell::open_cell(work, cell, key);
     drainage::drain_loaded(g, filled, codes, counts, labels, work);
 }
 
@@ -91,7 +91,7 @@ pub fn culvert(
     if answer.number != 0 {
         return answer;
     }
-    work_out(
+    drain_opened(
         g,
         elevations,
         cell as usize,

@@ -31,7 +31,7 @@ measured g e f k a l w s =
       room = s .room;
     }
 
--- the results of a sheet that is spelled are those of the sheet
+-- equal sheets have the same results
 pub results-of : {g : Grid} {s input f₁ : List ℤ} {k₁ a₁ l₁ : List ℕ} → s ≡ input → Results g s f₁ k₁ a₁ l₁ → Results g input f₁ k₁ a₁ l₁
 results-of {g} {f₁ = f₁} {k₁ = k₁} {a₁ = a₁} {l₁ = l₁} q R = subst (λ (x : List ℤ). Results g x f₁ k₁ a₁ l₁) q R
 

@@ -1,4 +1,4 @@
--- The promise of the one call, from the answer to questions 5 to 9 and the four lists of the inner part.
+-- The promise of the one call, from the answer to questions 5 to 9 and the four results.
 use mathlib.Core.Path.{_≡_, refl, _∙_}
 use mathlib.Core.List.{List, [], _∷_}
 use Prim.Native.Nat.{ℕ}

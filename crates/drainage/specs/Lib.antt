@@ -1,2 +1,2 @@
--- What the inner part of the one call needs and leaves.
+-- What the steps to the four results need and leave.
 pub mod Results

@@ -1,27 +1,17 @@
 -- What the loops of the fill have done.
 use mathlib.Core.Path.{_≡_, _∙_}
-use mathlib.Core.Logic.{_⊎_, inl, inr, ⊎-elim}
+use mathlib.Core.Logic.{⊎-elim}
 use mathlib.Core.List.{List}
 use Prim.Native.Nat.{ℕ, _+_, _<_}
 use native.Mathlib.Omega.{arith}
-use native.Mathlib.Decide.{ℕ-discrete}
 use lib.ListN.{length, getD, set}
-use lib.Seq.{getD-set-same, getD-set-other}
 use lib.IntN.{ℤ}
 use lib.Signed.{_≤ℤ_}
 use Rattle.grid.specs.Sheet.{void, top, at}
+use Rattle.grid_laws.proofs.Lists.{at-set}
 use Rattle.grid_laws.proofs.Cells.{InRange}
 use Rattle.cells.specs.Keys.{keyOf}
 use Rattle.fill.proofs.Words.{in-range}
-
--- what a store leaves at each index
-pub at-set : {A : Type 0} (d : A) (l : List A) (i : ℕ) (v : A) → i < length l → (x : ℕ) →
-    ((x ≡ i) × (getD (set l i v) x d ≡ v)) ⊎ ((x ≡ i → ⊥) × (getD (set l i v) x d ≡ getD l x d))
-at-set d l i v h x = go (ℕ-discrete x i)
-  where
-    go : Dec (x ≡ i) → ((x ≡ i) × (getD (set l i v) x d ≡ v)) ⊎ ((x ≡ i → ⊥) × (getD (set l i v) x d ≡ getD l x d))
-    go (yes e) = inl (e, rw e (getD-set-same l i v d h))
-    go (no f) = inr (f, getD-set-other l i x v d f)
 
 -- the first i elevations are loaded
 abbrev pub LoadTo : List ℤ → List ℕ → ℕ → Type 0

@@ -14,7 +14,7 @@ use Rattle.grid.specs.Fill.{filled}
 use Rattle.grid_laws.proofs.Below.{at-table, length-table, is-table}
 use Rattle.grid_laws.proofs.Cells.{InRange}
 use Rattle.cells.specs.Keys.{keyOf, levelOf}
-use Rattle.cells.proofs.Keys.{level-void, level-key, key-level, level-mono, level-top, key-small, least, void-top}
+use Rattle.cells.proofs.Keys.{level-key, key-level, level-above-void, level-top, key-small, least, void-top}
 use Rattle.key_sort.specs.Order.{AreKeys}
 use Rattle.fill_laws.proofs.Filled.{filled-length, filled-range}
 use Rattle.fill.specs.Words.{sheetIn, Words}
@@ -43,7 +43,7 @@ module _ (n : ℕ) (w : List ℕ) where
   sheet-in-range K = in-range (sheetIn n w) (λ c h. on c (rw sheet-length at h))
     where
       on : (c : ℕ) → c < n → (void ≤ℤ at (sheetIn n w) c) × (at (sheetIn n w) c ≤ℤ top)
-      on c h = rw (sheet-at c h) (rw level-void at (level-mono 0 (getD w c 0) (omega arith)), level-top (getD w c 0) (K c h))
+      on c h = rw (sheet-at c h) (level-above-void (getD w c 0), level-top (getD w c 0) (K c h))
 
 module _ (g : Grid) (e : List ℤ) (w : List ℕ) (cells : length e ≡ size g) (range : InRange e)
     (loaded : (c : ℕ) → c < length e → getD w c 0 ≡ keyOf (at e c)) where

@@ -22,7 +22,7 @@ use Rattle.grid_laws.proofs.Tests.{not-of-false, not-is-true, not-false-true}
 use Rattle.grid_laws.proofs.Below.{at-table, first-ext, first-all}
 use Rattle.grid_laws.proofs.Cells.{no-data-void}
 use Rattle.cells.specs.Keys.{keyOf}
-use Rattle.cells.proofs.Keys.{key-void}
+use Rattle.cells.proofs.Keys.{key-void, zero-no-data}
 use Rattle.flow_laws.specs.Words.{wordLevel, levelIn, levelsIn, firstWord, Levelled}
 use Rattle.flow_laws.proofs.Agree.{certified-directions, certified-unlevelled}
 use Rattle.slopes.specs.Steepest.{innerSum}
@@ -31,7 +31,6 @@ use Rattle.flow_laws.proofs.Steepest.{no-descent-none}
 use Rattle.flow_laws.proofs.Leads.{outlet-direction, descent-direction, not-level-zero}
 use Rattle.flow_laws.proofs.Search.{last?}
 use Rattle.flow_laws.proofs.Words.{level-none, word-none}
-use Rattle.levels.proofs.Keyed.{zero-no-data}
 
 -- where no drop is above 0, the sum is 0 and so is its choice
 no-choice : (g : Grid) (e : List ℤ) (c : ℕ) → hasDescent g e c ≡ false → choice (steepestSum g e c) ≡ 0

@@ -1,17 +1,27 @@
--- Elements that are there, and a list that is overwritten from its front.
+-- Elements that are there, what a store leaves, and a list that is overwritten from its front.
 use mathlib.Core.Path.{_≡_, refl, sym, _∙_, ap, subst}
+use mathlib.Core.Logic.{_⊎_, inl, inr}
 use mathlib.Core.List.{List, [], _∷_, _++_}
 use Prim.Native.Nat.{ℕ, zero, suc, _+_, _-_, _≤_, _<_}
 use native.Mathlib.Omega.{arith}
-use native.Mathlib.Decide.{decLt}
-use lib.ListN.{length, getD, drop, length-append, length-drop, List·getD-append}
-use lib.Seq.{ext-getD, getD-append-add, getD-drop}
+use native.Mathlib.Decide.{decLt, ℕ-discrete}
+use lib.ListN.{length, getD, set, drop, length-append, length-drop, List·getD-append}
+use lib.Seq.{ext-getD, getD-append-add, getD-drop, getD-set-same, getD-set-other}
 
 -- an element that is there has no use of the default
 pub any-default : {A : Type 0} (l : List A) (i : ℕ) (d b : A) → i < length l → getD l i d ≡ getD l i b
 any-default [] i d b h = let z : ⊥ = omega arith in absurd z
 any-default (x ∷ l) zero d b h = refl
 any-default (x ∷ l) (suc i) d b h = any-default l i d b (omega arith)
+
+-- what a store leaves at each index
+pub at-set : {A : Type 0} (d : A) (l : List A) (i : ℕ) (v : A) → i < length l → (x : ℕ) →
+    ((x ≡ i) × (getD (set l i v) x d ≡ v)) ⊎ ((x ≡ i → ⊥) × (getD (set l i v) x d ≡ getD l x d))
+at-set d l i v h x = go (ℕ-discrete x i)
+  where
+    go : Dec (x ≡ i) → ((x ≡ i) × (getD (set l i v) x d ≡ v)) ⊎ ((x ≡ i → ⊥) × (getD (set l i v) x d ≡ getD l x d))
+    go (yes e) = inl (e, rw e (getD-set-same l i v d h))
+    go (no f) = inr (f, getD-set-other l i x v d f)
 
 -- the values first, and the rest as it was
 pub overwritten : {A : Type 0} (d : A) (values old : List A) {count : ℕ} {new : List A}

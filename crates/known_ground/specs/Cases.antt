@@ -132,11 +132,13 @@ opened-bank =
     pos 9 ∷ pos 2 ∷ pos 2 ∷ pos 3 ∷ pos 1 ∷
     pos 9 ∷ pos 9 ∷ pos 9 ∷ pos 9 ∷ pos 9 ∷ []
 
--- number and place for a culvert in the bank, with a work buffer of this length
+numberAndPlace : Answer → List ℕ
+numberAndPlace a = a .number ∷ a .place ∷ []
+
+-- for a culvert in the bank, with a work buffer of this length
 culvertIn : ℕ → ℤ → ℕ → List ℕ
-culvertIn cell level work =
-    let a : Answer = culvertCheck (gridOf 3 5) bank cell level 15 15 15 15 work in
-    a .number ∷ a .place ∷ []
+unfolding numberAndPlace
+culvertIn cell level work = numberAndPlace (culvertCheck (gridOf 3 5) bank cell level 15 15 15 15 work)
 
 basinCodes : List ℕ
 basinCodes = directions (gridOf 5 5) basin
@@ -147,7 +149,8 @@ openedCodes = directions (gridOf 3 5) (filled (gridOf 3 5) opened-bank)
 -- ---- the table
 
 unfoldable pub knownGround : List Case
-unfolding printed-input printed-output voids between middle basin hole pools poolNumbers bank opened-bank culvertIn basinCodes openedCodes
+unfolding printed-input printed-output voids between middle basin hole pools poolNumbers bank opened-bank numberAndPlace culvertIn
+    basinCodes openedCodes
 knownGround =
     -- P1: the printed example, from text to text
     numbers (programText printed-input) printed-output
@@ -198,7 +201,7 @@ knownGround =
     ∷ numbers (culvertIn 7 (pos 7) 60) (16 ∷ 7 ∷ [])
     ∷ numbers (culvertIn 7 (negsuc 32767) 60) (16 ∷ 7 ∷ [])
     ∷ numbers (culvertIn 15 (negsuc 32767) 60) (15 ∷ 15 ∷ [])
-    ∷ numbers ((culvertCheck (gridOf 5 5) hole 12 (negsuc 32766) 25 25 25 25 100) .number ∷ []) (15 ∷ [])
+    ∷ numbers (numberAndPlace (culvertCheck (gridOf 5 5) hole 12 (negsuc 32766) 25 25 25 25 100)) (15 ∷ 12 ∷ [])
     ∷ numbers (culvertIn 15 (negsuc 32767) 59) (9 ∷ 0 ∷ [])
     -- "Rows 4,000 passes, 4,001 gets 5. Codes 2 and 32 side by side, facing each other, get 12"
     ∷ numbers ((fillCheck (gridOf 4000 1) 4000 4000 16000) .number ∷ []) (0 ∷ [])

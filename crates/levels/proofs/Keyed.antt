@@ -19,9 +19,9 @@ use Rattle.grid.specs.Sheet.{size, void, at, isData, eqZ, neighbour}
 use Rattle.grid.specs.Directions.{isEqual}
 use Rattle.grid_laws.proofs.Tests.{test, true-false, not-of-false}
 use Rattle.grid_laws.proofs.Order.{eqZ-eq}
-use Rattle.grid_laws.proofs.Cells.{on-sheet, void-no-data}
+use Rattle.grid_laws.proofs.Cells.{on-sheet}
 use Rattle.cells.specs.Keys.{keyOf, levelOf}
-use Rattle.cells.proofs.Keys.{Known, known-read, level-key, key-level, key-void, level-void}
+use Rattle.cells.proofs.Keys.{Known, known-read, level-key, key-level, key-void, zero-no-data}
 use Rattle.flow_laws.specs.Words.{levelIn}
 use Rattle.flow_laws.proofs.Equals.{is-equal, equal-height}
 use Rattle.flow_laws.proofs.Agree.{equal-on-sheet}
@@ -46,10 +46,6 @@ height-data e c k h p = ⊎-elim (λ t. absurd (zero t)) not-of-false (test (eqZ
   where
     zero : eqZ (at e c) void ≡ true → ⊥
     zero t = let q : k ≡ 0 = sym (key-level k) ∙ ap keyOf (sym h ∙ eqZ-eq (at e c) void t) ∙ key-void in omega arith
-
--- a key of 0 is the void's
-pub zero-no-data : (e : List ℤ) (c r : ℕ) → r ≡ keyOf (at e c) → void ≤ℤ at e c → r ≡ 0 → isData e c ≡ false
-zero-no-data e c r q v z = void-no-data e c (sym (level-key (at e c) v) ∙ ap levelOf (sym q ∙ z) ∙ level-void)
 
 pub data-positive : (e : List ℤ) (c r : ℕ) → r ≡ keyOf (at e c) → void ≤ℤ at e c → isData e c ≡ true → 0 < r
 data-positive e c r q v d = go (decLt 0 r)

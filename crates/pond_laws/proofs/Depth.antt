@@ -1,38 +1,24 @@
 -- Wet cells and depths by keys: the filled sheet is nowhere below the input, so that the difference of the keys is the depth.
 use mathlib.Core.Path.{_≡_, sym, _∙_, ap}
-use mathlib.Core.Bool.{true, false, _&&_}
+use mathlib.Core.Bool.{false, _&&_}
 use mathlib.Core.Logic.{⊎-elim}
 use mathlib.Core.List.{List}
 use Prim.Native.Nat.{ℕ, _-_, _≤_, _<_}
 use native.Mathlib.Omega.{arith}
-use native.Mathlib.Decide.{decLt}
 use lib.Dec.{ltb}
 use lib.ListN.{length}
 use lib.IntN.{ℤ, pos, _-ℤ_}
-use lib.Signed.{ltZ, _≤ℤ_, ltZ-yes, clashℤ}
-use borrow.Author.Tests.{lt-ltb, le-ltb, ltb-true, ltb-false}
+use lib.Signed.{ltZ}
+use borrow.Author.Tests.{le-ltb, ltb-false}
 use Rattle.grid.specs.declared.Grid.{Grid}
-use Rattle.grid.specs.Sheet.{size, void, at, isData}
+use Rattle.grid.specs.Sheet.{size, at, isData}
 use Rattle.grid.specs.Fill.{filled}
 use Rattle.grid.specs.Ponds.{isWet, natural, depth}
 use Rattle.cells.specs.Keys.{keyOf}
-use Rattle.cells.proofs.Keys.{key-void, key-small, key-mono, key-order, key-drop}
-use Rattle.grid_laws.proofs.Tests.{test, true-T, not-false-true, same-test, and-true, and-right, and-false-left}
-use Rattle.grid_laws.proofs.Order.{not-<-≤ℤ}
+use Rattle.cells.proofs.Keys.{key-void, key-small, key-mono, key-less, key-drop}
+use Rattle.grid_laws.proofs.Tests.{test, true-T, same-test, and-true, and-right, and-false-left}
 use Rattle.grid_laws.proofs.Cells.{InRange, no-data-void}
 use Rattle.fill_laws.proofs.Filled.{input-≤-filled, filled-voids, filled-range}
-
-key-less : (a b : ℤ) → void ≤ℤ a → ltZ a b ≡ ltb (keyOf a) (keyOf b)
-key-less a b h = same-test (ltZ a b) (ltb (keyOf a) (keyOf b)) (λ t. less t (decLt (keyOf a) (keyOf b))) below
-  where
-    less : ltZ a b ≡ true → Dec (keyOf a < keyOf b) → ltb (keyOf a) (keyOf b) ≡ true
-    less t (yes k) = lt-ltb (keyOf a) (keyOf b) k
-    less t (no k) = clashℤ (ltZ-yes (true-T t)) (key-order b a h (omega arith))
-
-    below : ltb (keyOf a) (keyOf b) ≡ true → ltZ a b ≡ true
-    below t =
-        not-false-true (ltZ a b)
-        (λ n. let k = key-mono b a (not-<-≤ℤ n) in let s = ltb-true (keyOf a) (keyOf b) t in omega arith)
 
 module _ (g : Grid) (e : List ℤ) (long : length e ≡ size g) (range : InRange e) where
   abbrev f : List ℤ

@@ -1,7 +1,7 @@
 -- 5 to 9, then 15 and 16.
 use borrow.Author.Needs.{needs}
 use Rattle.cells.specs.Keys.{levelOf}
-use Rattle.culvert.proofs.Promise.{asked-no, asked-on}
+use Rattle.culvert.proofs.Promise.{asked-no, asked-yes}
 use Rattle.culvert.proofs.ask.Statement.{statement}
 use Rattle.culvert.proofs.ask.Tie as tie
 
@@ -22,7 +22,7 @@ returns-2 : tie.Need-returns-2
 returns-2 c =
     let a = c .before .before .before .before .args in
     let k = c .before .before .before .check in
-    asked-on (a .g) (a .elevations .now) (a .cell) (levelOf (a .key)) (a .filled) (a .codes) (a .counts) (a .labels) (a .work)
+    asked-yes (a .g) (a .elevations .now) (a .cell) (levelOf (a .key)) (a .filled) (a .codes) (a .counts) (a .labels) (a .work)
     (k .result) (k .ensures) (c .before .if1 .left) (c .check2 .result) (c .check2 .ensures)
 
 pub ask-spec : {M : Type 1} → statement M

@@ -1,12 +1,11 @@
 -- The level's key, the questions, and after a yes the four results of the opened sheet.
 use mathlib.Core.Path.{_∙_}
-use native.Mathlib.Omega.{arith}
 use mir.Facts.{toZ-ofZ}
 use lib.ListN.{length}
 use borrow.Author.Needs.{needs}
 use Rattle.cells.specs.Keys.{levelOf}
-use Rattle.culvert.proofs.Loaded.{known-level}
-use Rattle.culvert.proofs.Promise.{has-lengths, cell-on, promise-of-no, promise-of-yes}
+use Rattle.cells.proofs.Keys.{known-level}
+use Rattle.culvert.proofs.Promise.{fits, promise-of-no, promise-of-yes}
 use Rattle.culvert.proofs.culvert.Statement.{statement}
 use Rattle.culvert.proofs.culvert.Tie as tie
 
@@ -26,18 +25,16 @@ returns c =
     promise-of-no (a .g) (a .elevations .now) (a .cell) (a .level) (a .filled .now) (a .codes .now) (a .counts .now) (a .labels .now)
     (a .work .now) (k .result) (known-level (k .result) _ (k .ensures) ∙ toZ-ofZ (s .fits .level)) (q .result) (q .ensures) (c .if1 .taken)
 
-work-out-requires : tie.Need-work-out-requires
-work-out-requires c κs =
+drain-opened-requires : tie.Need-drain-opened-requires
+drain-opened-requires c κs =
     let y = c .before .before .before .before .before in
     let q = y .before .before .ask in
     let b = y .before .before .before in
     let k = b .key in
     let a = b .before .before .before .before .before .args in
-    let h = has-lengths (a .g) (a .elevations .now) (a .cell) (levelOf (k .result)) (length (a .filled .now)) (length (a .codes .now))
+    let h = fits (a .g) (a .elevations .now) (a .cell) (levelOf (k .result)) (length (a .filled .now)) (length (a .codes .now))
     (length (a .counts .now)) (length (a .labels .now)) (length (a .work .now)) (q .result) (q .ensures) (y .if1 .left) in
-    let on = cell-on (a .g) (a .elevations .now) (a .cell) (levelOf (k .result)) (length (a .filled .now)) (length (a .codes .now))
-    (length (a .counts .now)) (length (a .labels .now)) (length (a .work .now)) (q .result) (q .ensures) (y .if1 .left) in
-    (h .0, (h .1, (on, k .ensures .1 .0)))
+    (h .0, (h .1, (h .2, k .ensures .1 .0)))
 
 same-length : tie.Need-same-length
 same-length c = search needs
@@ -57,7 +54,7 @@ same-length-5 c = search needs
 returns-2 : tie.Need-returns-2
 returns-2 c =
     let o = c .before .before .before .before .before .before .before .before .before in
-    let w = o .work-out in
+    let w = o .drain-opened in
     let y = o .before .before .before .before .before .before in
     let q = y .before .before .ask in
     let b = y .before .before .before in
@@ -75,7 +72,7 @@ culvert-spec =
     key-requires
     ask-requires
     returns
-    work-out-requires
+    drain-opened-requires
     same-length
     same-length-2
     same-length-3

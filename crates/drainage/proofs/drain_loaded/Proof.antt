@@ -1,4 +1,4 @@
--- Fill what is loaded, then directions, then counts and labels.
+-- The sheet that the keys spell is in range, so its filled sheet has every level and its routes end: each step has what it asks for.
 use mathlib.Core.Path.{_∙_}
 use native.Mathlib.Omega.{arith}
 use lib.ListN.{length}
@@ -9,11 +9,6 @@ use Rattle.drainage.proofs.Steps.{routable, results}
 use borrow.Author.Needs.{needs}
 use Rattle.drainage.proofs.drain_loaded.Statement.{statement}
 use Rattle.drainage.proofs.drain_loaded.Tie as tie
-use Rattle.drainage.proofs.drain_loaded.Reads as reads
-use Rattle.drainage.proofs.drain_loaded.Lts as lts
-use Rattle.flow.proofs.directions_into.Reads as directions-into-reads
-use Rattle.drainage.proofs.route_results.Reads as route-results-reads
-use Rattle.fill.proofs.fill_loaded.Reads as fill-loaded-reads
 
 fill-loaded-requires : tie.Need-fill-loaded-requires
 fill-loaded-requires c κs =

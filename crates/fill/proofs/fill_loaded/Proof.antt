@@ -1,6 +1,5 @@
--- Fill the words, unload.
+-- The words are those of the sheet that the keys spell, so what is unloaded is its filled sheet.
 use mathlib.Core.Path.{_∙_}
-use native.Mathlib.Omega.{arith}
 use Rattle.grid.specs.Sheet.{size}
 use Rattle.fill.specs.Words.{sheetIn}
 use Rattle.fill.proofs.Words.{sheet-length, sheet-in-range, unloaded-filled}

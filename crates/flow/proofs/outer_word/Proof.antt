@@ -1,4 +1,4 @@
-use Rattle.levels.proofs.Keyed.{zero-no-data}
+use Rattle.cells.proofs.Keys.{zero-no-data}
 use Rattle.flow.proofs.Seeds.{void-word, outlet-word, key-data}
 use borrow.Author.Needs.{needs}
 use Rattle.flow.proofs.outer_word.Statement.{statement}

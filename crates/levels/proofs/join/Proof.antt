@@ -5,8 +5,8 @@ use native.Mathlib.Omega.{arith}
 use borrow.Author.Needs.{needs, sfits-of}
 use Rattle.grid.specs.Sheet.{at, isData}
 use Rattle.cells.specs.Keys.{levelOf}
-use Rattle.cells.proofs.Keys.{Known}
-use Rattle.levels.proofs.Keyed.{key-read, agrees, height-data, zero-no-data}
+use Rattle.cells.proofs.Keys.{Known, zero-no-data}
+use Rattle.levels.proofs.Keyed.{key-read, agrees, height-data}
 use Rattle.levels.proofs.Joined.{joining-has, joining-void, joining-alone, joining-within, joining-room, joining-next}
 use Rattle.levels.proofs.join.Statement.{statement}
 use Rattle.levels.proofs.join.Tie as tie

@@ -6,37 +6,22 @@ use Prim.Native.Nat.{ℕ}
 use native.Mathlib.Omega.{arith}
 use lib.Dec.{eqb, ltb, leb}
 use lib.IntN.{ℤ}
-use lib.Signed.{leZ, _≤ℤ_}
-use borrow.Author.Tests.{eq-eqb, ne-eqb, le-leb, leb-true, lt-ltb, le-ltb}
+use lib.Signed.{leZ}
+use borrow.Author.Tests.{eq-eqb, ne-eqb, lt-ltb}
 use Rattle.grid.specs.Sheet.{void, at, eqZ, isData}
 use Rattle.grid.specs.Culvert.{isLevelFor}
 use Rattle.grid.specs.Checks.{refusal, accepted, askCulvert}
-use Rattle.grid_laws.proofs.Tests.{T-true, true-T, same-test, and-false-left, cond-true, cond-false, not-of-true, not-of-false}
-use Rattle.cells.specs.Keys.{keyOf, levelOf}
-use Rattle.cells.proofs.Keys.{Known, key-level, key-mono, key-order, key-equal, key-void, level-mono, level-void, data-key, least}
-
-key-test : (a b : ℤ) → void ≤ℤ b → leZ a b ≡ leb (keyOf a) (keyOf b)
-key-test a b h =
-    same-test (leZ a b) (leb (keyOf a) (keyOf b))
-    (λ t. le-leb (keyOf a) (keyOf b) (key-mono a b (record { le = true-T t })))
-    (λ t. T-true (leZ a b) (key-order a b h (leb-true (keyOf a) (keyOf b) t) .le))
-
-level-above-void : (key : ℕ) → void ≤ℤ levelOf key
-level-above-void key = rw level-void at (level-mono 0 key (omega arith))
+use Rattle.grid_laws.proofs.Tests.{and-false-left, cond-true, cond-false, not-of-true, not-of-false}
+use Rattle.cells.specs.Keys.{levelOf}
+use Rattle.cells.proofs.Keys.{Known, key-level, key-equal, key-at-most, key-void, level-above-void, data-key, least}
 
 level-is-void : (key : ℕ) → eqZ (levelOf key) void ≡ eqb key 0
 level-is-void key = key-equal (levelOf key) void (level-above-void key) least ∙ ap₂ eqb (key-level key) key-void
 
 -- here is the key of the cell, as it was read
 module _ (e : List ℤ) (cell here : ℕ) (H : Known here (at e cell)) where
-  data-test : isData e cell ≡ ltb 0 here
-  data-test = data-key e cell (H .1 .1 .0) ∙ ap (ltb 0) (sym (H .0))
-
-  pub no-data : here ≡ 0 → isData e cell ≡ false
-  no-data z = data-test ∙ le-ltb 0 here (omega arith)
-
   pub has-data : (here ≡ 0 → ⊥) → isData e cell ≡ true
-  has-data n = data-test ∙ lt-ltb 0 here (omega arith)
+  has-data n = data-key e cell (H .1 .1 .0) ∙ ap (ltb 0) (sym (H .0)) ∙ lt-ltb 0 here (omega arith)
 
   -- key is that of the level
   module _ (key : ℕ) where
@@ -48,7 +33,7 @@ module _ (e : List ℤ) (cell here : ℕ) (H : Known here (at e cell)) where
     unfolding isLevelFor
     level-test n =
         ap₂ leb (sym (key-level key)) (H .0)
-        ∙ sym (key-test (levelOf key) (at e cell) (H .1 .1 .0))
+        ∙ sym (key-at-most (levelOf key) (at e cell) (H .1 .1 .0))
         ∙ sym (ap (λ (b : Bool). b && leZ (levelOf key) (at e cell)) (not-of-false (level-is-void key ∙ ne-eqb key 0 n)))
 
 -- 15, 16 and a yes

@@ -1,4 +1,4 @@
--- Load, open, drain what is loaded.
+-- Keys stay keys when one is stored among them, and what they then spell is the opened sheet.
 use mathlib.Core.Path.{sym, _∙_, subst}
 use Prim.Native.Nat.{_<_}
 use native.Mathlib.Omega.{arith}
@@ -6,9 +6,9 @@ use lib.ListN.{length}
 use borrow.Author.Needs.{needs}
 use Rattle.drainage.specs.Results.{Measured}
 use Rattle.drainage.proofs.Four.{results-of}
-use Rattle.culvert.proofs.Loaded.{keys-opened, sheet-opened}
-use Rattle.culvert.proofs.work_out.Statement.{statement}
-use Rattle.culvert.proofs.work_out.Tie as tie
+use Rattle.culvert.proofs.Loaded.{loaded-opened-keys, loaded-opened-sheet}
+use Rattle.culvert.proofs.drain_opened.Statement.{statement}
+use Rattle.culvert.proofs.drain_opened.Tie as tie
 
 load-requires : tie.Need-load-requires
 load-requires c κs = search needs
@@ -27,7 +27,7 @@ drain-loaded-requires c κs =
     let same = l .kept .1 .0 in
     let on : a .cell < length (l .last .1 .0) = omega (arith, s .pre .0 .room, s .pre .1 .1 .0) in (
       subst (Measured (a .g) _ _ _ _) (sym (o .kept .0 ∙ same)) (s .pre .0),
-      keys-opened (a .g) (a .elevations .now) (l .last .1 .0) (o .last .0) (a .cell) (a .key) (s .pre .1 .0) (l .ensures .1) (l .ensures .0)
+      loaded-opened-keys (a .g) (a .elevations .now) (l .last .1 .0) (o .last .0) (a .cell) (a .key) (s .pre .1 .0) (l .ensures .1) (l .ensures .0)
           on (o .ensures) (s .pre .1 .1 .1),
     )
 
@@ -58,12 +58,12 @@ returns c =
     let same = l .kept .1 .0 in
     let on : a .cell < length (l .last .1 .0) = omega (arith, s .pre .0 .room, s .pre .1 .1 .0) in
     results-of
-    (sheet-opened (a .g) (a .elevations .now) (l .last .1 .0) (o .last .0) (a .cell) (a .key) (s .pre .1 .0) (l .ensures .1)
+    (loaded-opened-sheet (a .g) (a .elevations .now) (l .last .1 .0) (o .last .0) (a .cell) (a .key) (s .pre .1 .0) (l .ensures .1)
     (l .ensures .0) on (o .ensures))
     (e .drain-loaded .ensures)
 
-pub work-out-spec : {M : Type 1} → statement M
-work-out-spec =
+pub drain-opened-spec : {M : Type 1} → statement M
+drain-opened-spec =
     tie.close
     (tie.spec
     load-requires

@@ -1,10 +1,11 @@
 -- Each way out by its test.
 use borrow.Author.Needs.{needs}
 use Rattle.cells.specs.Keys.{levelOf}
+use Rattle.cells.proofs.Keys.{zero-no-data}
 use Rattle.checks.proofs.Asked.{says-no, says-yes}
-use Rattle.opening.proofs.Asked.{no-data, has-data, no-to-15, no-to-16, yes-to-both}
-use Rattle.opening.proofs.check.Statement.{statement}
-use Rattle.opening.proofs.check.Tie as tie
+use Rattle.culvert_cell.proofs.Asked.{has-data, no-to-15, no-to-16, yes-to-both}
+use Rattle.culvert_cell.proofs.check.Statement.{statement}
+use Rattle.culvert_cell.proofs.check.Tie as tie
 
 key-at-requires : tie.Need-key-at-requires
 key-at-requires c κs = search needs
@@ -14,7 +15,7 @@ returns c =
     let a = c .before .before .args in
     let h = c .before .key-at in
     no-to-15 (a .elevations .now) (a .cell) (levelOf (a .key))
-    (no-data (a .elevations .now) (a .cell) (h .result) (h .ensures) (c .if1 .taken))
+    (zero-no-data (a .elevations .now) (a .cell) (h .result) (h .ensures .0) (h .ensures .1 .1 .0) (c .if1 .taken))
 
 is-level-for-requires : tie.Need-is-level-for-requires
 is-level-for-requires c κs = search needs

@@ -1,9 +1,9 @@
 -- Each way out by its test of the level's key.
 use mathlib.Core.Path.{sym}
 use borrow.Author.Needs.{needs}
-use Rattle.opening.proofs.Asked.{void-level, level-test}
-use Rattle.opening.proofs.is_level_for.Statement.{statement}
-use Rattle.opening.proofs.is_level_for.Tie as tie
+use Rattle.culvert_cell.proofs.Asked.{void-level, level-test}
+use Rattle.culvert_cell.proofs.is_level_for.Statement.{statement}
+use Rattle.culvert_cell.proofs.is_level_for.Tie as tie
 
 key-at-requires : tie.Need-key-at-requires
 key-at-requires c κs = search needs

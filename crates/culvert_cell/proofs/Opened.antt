@@ -12,11 +12,11 @@ use Rattle.grid.specs.Sheet.{void, at}
 use Rattle.grid.specs.Culvert.{opened}
 use Rattle.grid_laws.proofs.Tests.{cond-true, cond-false}
 use Rattle.grid_laws.proofs.Below.{is-table}
+use Rattle.grid_laws.proofs.Lists.{at-set}
 use Rattle.cells.specs.Keys.{levelOf}
 use Rattle.key_sort.specs.Order.{AreKeys}
 use Rattle.fill.specs.Words.{sheetIn}
 use Rattle.fill.proofs.Words.{sheet-length, sheet-at}
-use Rattle.fill.proofs.Loops.{at-set}
 
 module _ (n : ℕ) (w : List ℕ) (cell key : ℕ) (on : cell < length w) where
   pub opened-sheet : sheetIn n (set w cell key) ≡ opened (sheetIn n w) cell (levelOf key)
