@@ -27,8 +27,8 @@ drain-loaded-requires c κs =
     let same = l .kept .1 .0 in
     let on : a .cell < length (l .last .1 .0) = omega (arith, s .pre .0 .room, s .pre .1 .1 .0) in (
       subst (Measured (a .g) _ _ _ _) (sym (o .kept .0 ∙ same)) (s .pre .0),
-      loaded-opened-keys (a .g) (a .elevations .now) (l .last .1 .0) (o .last .0) (a .cell) (a .key) (s .pre .1 .0) (l .ensures .1) (l .ensures .0)
-          on (o .ensures) (s .pre .1 .1 .1),
+      loaded-opened-keys (a .g) (a .elevations .now) (l .last .1 .0) (o .last .0) (a .cell) (a .key) (s .pre .1 .0) (l .ensures .1)
+          (l .ensures .0) on (o .ensures) (s .pre .1 .1 .1),
     )
 
 same-length : tie.Need-same-length
