@@ -9,7 +9,7 @@ ghost use Rattle.grid.specs.Culvert.{isLevelFor};
 ghost use Rattle.grid.specs.Checks.{accepted, askCulvert};
 ghost use Rattle.cells.specs.Keys.{levelOf};
 
-// Whether a culvert at the cell may have the level: not "if the level is −32,768 or above the cell's elevation".
+// Whether the cell may be opened to the level: not "if the level is −32,768 or above the cell's elevation".
 fn is_level_for(elevations: &[i16], cell: usize, key: u32) -> bool
     ensures { λ r. ⌜ r ≡ isLevelFor (now (elevations .entry)) cell (levelOf key) ⌝ }
 {
