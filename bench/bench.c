@@ -6,9 +6,9 @@
  * Prints, for each step and for the whole, the best of RUNS (default 3) of each side in nanoseconds of processor time for a
  * cell, and their ratio, library to baseline; and fails where a result differs. Buffers are written once before any clock
  * starts. The baseline's fill needs its outlets and its counts and labels need its ways, so these count with the steps that use
- * them: outlets with the fill, ways with the counts and with the labels. The baseline lists no ponds and opens no culvert: those
- * lines have the library's own fill, and its own one call, in the baseline's place. The culvert lies at the elevation of its cell, so
- * that its results are those of the one call.
+ * them: outlets with the fill, ways with the counts and with the labels. The baseline lists no ponds, opens no culvert and closes no
+ * side: those lines have the library's own fill, and its own one call, in the baseline's place. The culvert lies at the elevation of
+ * its cell, so that its results are those of the one call. The line "closed" is the one call with the south side alone open.
  */
 #define main baseline_main
 #include "baseline.c"
@@ -92,7 +92,8 @@ int main(int argc, char **argv)
     make_tables(s);
     /* a small sheet is worked out many times between two readings of the clock */
     int times = n < 100000 ? (int)(2000000 / n) + 1 : 1;
-    double base[B_N], ours[B_N], listed = 1e300, opened = 1e300;
+    double base[B_N], ours[B_N], listed = 1e300, opened = 1e300, closed = 1e300;
+    const uint32_t all_but_south = TERVUOLA_CLOSED_WEST + TERVUOLA_CLOSED_EAST + TERVUOLA_CLOSED_NORTH;
     uint32_t cell = s.cells / 2; /* the first data cell from the middle on, round the sheet */
     for (size_t k = 1; k < n && z[cell] == TERVUOLA_VOID; k++) cell = (cell + 1) % s.cells;
     for (int k = 0; k < B_N; k++) base[k] = ours[k] = 1e300;
@@ -121,9 +122,9 @@ int main(int argc, char **argv)
         least(&base[B_ALL], t[6]);
         for (int k = 0; k < times; k++) {
             double a = now();
-            accepted(tervuola_fill(s.rows, s.cols, z, n, f2, n, work, work_len));
+            accepted(tervuola_fill(s.rows, s.cols, 0, z, n, f2, n, work, work_len));
             double b = now();
-            accepted(tervuola_directions(s.rows, s.cols, f, n, code2, n, work, work_len));
+            accepted(tervuola_directions(s.rows, s.cols, 0, f, n, code2, n, work, work_len));
             double c = now();
             accepted(tervuola_counts(s.rows, s.cols, code, n, acc2, n, work, work_len));
             double d = now();
@@ -135,17 +136,27 @@ int main(int argc, char **argv)
         clear(library, n);
         for (int k = 0; k < times; k++) {
             double a = now();
-            accepted(tervuola_drain(s.rows, s.cols, z, n, f2, n, code2, n, acc2, n, lab2, n, work, work_len));
+            accepted(tervuola_drain(s.rows, s.cols, 0, z, n, f2, n, code2, n, acc2, n, lab2, n, work, work_len));
             u[4] += now() - a;
         }
         same_four("the one call", expert, library, n);
         for (int k = 0; k < B_N; k++) least(&ours[k], u[k]);
+        clear(library, n);
+        double begun = now();
+        for (int k = 0; k < times; k++)
+            accepted(tervuola_drain(s.rows, s.cols, all_but_south, z, n, f2, n, code2, n, acc2, n, lab2, n, work, work_len));
+        least(&closed, now() - begun);
+        for (size_t c = 0; c < n; c++) /* water has fewer ways out */
+            if (f2[c] < f[c]) {
+                fprintf(stderr, "bench: closed sides: a filled elevation is lower\n");
+                exit(1);
+            }
         if (z[cell] != TERVUOLA_VOID) {
             double o = 0;
             clear(library, n);
             for (int k = 0; k < times; k++) {
                 double a = now();
-                accepted(tervuola_culvert(s.rows, s.cols, z, n, cell, z[cell], f2, n, code2, n, acc2, n, lab2, n, work, work_len));
+                accepted(tervuola_culvert(s.rows, s.cols, 0, z, n, cell, z[cell], f2, n, code2, n, acc2, n, lab2, n, work, work_len));
                 o += now() - a;
             }
             least(&opened, o);
@@ -154,7 +165,7 @@ int main(int argc, char **argv)
         tervuola_counted found = { 0, 0, 0 };
         double a = now();
         for (int k = 0; k < times; k++)
-            found = tervuola_ponds(s.rows, s.cols, z, n, ponds, n, level, n, cells, n, volume, n, work, work_len);
+            found = tervuola_ponds(s.rows, s.cols, 0, z, n, ponds, n, level, n, cells, n, volume, n, work, work_len);
         least(&listed, now() - a);
         if (found.number) {
             fprintf(stderr, "bench: refused: %s\n", tervuola_text(found.number));
@@ -168,5 +179,6 @@ int main(int argc, char **argv)
     for (int k = 0; k < B_N; k++) line(names[k], "baseline", base[k], ours[k], (double)n * times);
     line("ponds", "fill", ours[B_FILL], listed, (double)n * times);
     if (z[cell] != TERVUOLA_VOID) line("culvert", "one call", ours[B_ALL], opened, (double)n * times);
+    line("closed", "one call", ours[B_ALL], closed, (double)n * times);
     return 0;
 }

@@ -19,7 +19,7 @@ int main(void)
     tervuola_dimensions d = tervuola_read(text, length, elevations, CELLS);
     if (d.number != TERVUOLA_OK) return refused(d.number, d.place);
     size_t n = (size_t)d.rows * d.cols;
-    tervuola_counted a = tervuola_ponds(d.rows, d.cols, elevations, n, ponds, n, level, CELLS, cells, CELLS, volume, CELLS, work, 4 * CELLS);
+    tervuola_counted a = tervuola_ponds(d.rows, d.cols, 0, elevations, n, ponds, n, level, CELLS, cells, CELLS, volume, CELLS, work, 4 * CELLS);
     if (a.number != TERVUOLA_OK) return refused(a.number, a.place);
     for (size_t c = 0; c < n; c++) printf("%4u%s", (unsigned)ponds[c], (c + 1) % d.cols ? "" : "\n");
     for (uint32_t k = 0; k < a.count; k++)

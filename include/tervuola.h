@@ -12,8 +12,16 @@
  *         16   8   4                 8   4   2                        5 6 7
  *
  * It is NOT the ESRI coding, where east is 1: from ours to ESRI's, a code c other than 1 is c / 2, and 1 is 128.
- * COUNTS do not include the cell itself. VOIDS (-32768) lie outside: a data cell beside a void is an outlet, as one on the
- * border is. Nothing is filled at an outlet.
+ * COUNTS do not include the cell itself. VOIDS (-32768) lie outside: a data cell beside a void is an OUTLET, as one on an open
+ * side of the border is. Nothing is filled at an outlet.
+ *
+ * CLOSED SIDES. A sheet cut from larger country goes on next door, and water at the cut does not leave. The calls that work out
+ * outlets (fill, ponds, directions, drain, culvert) take a number from 0 to 15 for the sides that are closed: west 1, east 2,
+ * north 4, south 8, added up; with 0 every side is open. A border cell is an outlet only through an open side by a straight
+ * step, or beside a void; one open side is enough for a cell in the sheet's corner. Its code is the first of 32, 2, 128, 8, 1, 4,
+ * 16, 64 that is such a step. A void on a closed side is outside like any other. A sheet with a data cell that has no chain to an
+ * outlet, as one with four closed sides and no void, is refused with 18. The calls that see codes only know no sides: there a
+ * route ends at any step off the sheet.
  *
  * Sheets. Rows and columns are each from 1 to 4,000. The cell in row r and column q, both from 0, has the number
  * r * cols + q, and stands at that place of each sheet. Elevations are signed 16-bit numbers, -32768 the void.
@@ -23,8 +31,8 @@
  * the same call: that is the caller's part, and the only one. Any length and any content is allowed: what does not fit is
  * refused.
  *
- * A refusal (number above 0) leaves every result buffer as it was; a number up to 9 leaves the work buffer as it was too.
- * Otherwise the work buffer's contents are free afterwards.
+ * A refusal (number above 0) leaves every result buffer as it was; a number up to 9, and 17, leaves the work buffer as it was
+ * too. Otherwise the work buffer's contents are free afterwards.
  *
  * The calls allocate nothing, keep no state, are reentrant and thread-safe, and use at most 512 KiB of stack.
  */
@@ -35,7 +43,7 @@
 #include <stdint.h>
 
 #define TERVUOLA_VERSION_MAJOR 0
-#define TERVUOLA_VERSION_MINOR 3
+#define TERVUOLA_VERSION_MINOR 4
 #define TERVUOLA_VERSION_PATCH 0
 
 /* The void mark, and the eight direction codes. */
@@ -49,6 +57,12 @@
 #define TERVUOLA_NORTH_WEST 64
 #define TERVUOLA_NORTH 128
 
+/* The closed sides: a sum of these, 0 where every side is open. */
+#define TERVUOLA_CLOSED_WEST 1
+#define TERVUOLA_CLOSED_EAST 2
+#define TERVUOLA_CLOSED_NORTH 4
+#define TERVUOLA_CLOSED_SOUTH 8
+
 /* The most rows, and the most columns, of a sheet. */
 #define TERVUOLA_MAX_SIDE 4000
 
@@ -60,7 +74,10 @@
 extern "C" {
 #endif
 
-/* Why a call refused: the first question at the gate that is answered no. The place is 0 unless it is named here. */
+/*
+ * Why a call refused: the first question at the gate that is answered no. The place is 0 unless it is named here. Each call lists
+ * its numbers in the order in which it asks.
+ */
 enum tervuola_number {
     TERVUOLA_OK = 0,              /* accepted */
     TERVUOLA_TEXT_TOO_LONG = 1,   /* the text has more than 11,529 bytes */
@@ -79,7 +96,9 @@ enum tervuola_number {
     TERVUOLA_BAD_START = 13,      /* a start where the code is 0; place: the first such cell */
     TERVUOLA_SHORT_COLUMNS = 14,  /* the columns do not hold all pairs, or all ponds; place: their number */
     TERVUOLA_BAD_CELL = 15,       /* the cell is no data cell of the sheet: a void, or off the sheet; place: the cell as given */
-    TERVUOLA_BAD_LEVEL = 16       /* the level is -32768, or above the cell's elevation; place: the cell */
+    TERVUOLA_BAD_LEVEL = 16,      /* the level is -32768, or above the cell's elevation; place: the cell */
+    TERVUOLA_BAD_SIDES = 17,      /* the closed sides are a number above 15 */
+    TERVUOLA_NO_OUTLET = 18       /* a data cell has no chain of data cells to an outlet; place: the first such cell */
 };
 
 typedef struct {
@@ -130,16 +149,19 @@ static inline const char *tervuola_text(uint32_t number)
     case TERVUOLA_SHORT_COLUMNS: return "the columns do not hold all pairs or ponds";
     case TERVUOLA_BAD_CELL: return "the cell is no data cell of the sheet";
     case TERVUOLA_BAD_LEVEL: return "the level is the void mark or above the cell's elevation";
+    case TERVUOLA_BAD_SIDES: return "the closed sides are not from 0 to 15";
+    case TERVUOLA_NO_OUTLET: return "a data cell has no chain to an outlet: its water cannot leave";
     default: return "unknown number";
     }
 }
 
 /*
  * The depressionless sheet: each data cell raised to the lowest level from which water can leave it.
- * elevations: rows * cols. filled: rows * cols, the result. work: at least 4 * rows * cols.
- * Numbers: 5 6 7 8 9. Promise: FillPromise (crates/grid/specs/Promises.antt). Linear in the number of cells.
+ * sides: those that are closed, 0 for none. elevations: rows * cols. filled: rows * cols, the result. work: at least
+ * 4 * rows * cols.
+ * Numbers: 5 6 17 7 8 9 18. Promise: FillPromise (crates/grid/specs/Promises.antt). Linear in the number of cells.
  */
-tervuola_answer tervuola_fill(uint32_t rows, uint32_t cols,
+tervuola_answer tervuola_fill(uint32_t rows, uint32_t cols, uint32_t sides,
                               const int16_t *elevations, size_t elevations_len,
                               int16_t *filled, size_t filled_len,
                               uint32_t *work, size_t work_len);
@@ -149,12 +171,12 @@ tervuola_answer tervuola_fill(uint32_t rows, uint32_t cols,
  * cell of a pond gets the pond's number, counted from 1 by the ponds' lowest cells, and every other cell 0. The three columns have
  * at place k - 1, for pond k, the filled elevation that all its cells share, the number of its cells, and its volume, the sum of
  * filled minus input. Reports the number of ponds; places past it are untouched.
- * elevations: rows * cols. ponds: rows * cols, the result. level, cells, volume: the columns, of one length; rows * cols always
- * suffice. work: at least 4 * rows * cols. Columns of length 0 (null pointers will do) ask for the number of ponds alone: it is the
- * place of number 14, and number 0 says that there are none.
- * Numbers: 5 6 7 8 9 14. Promise: PondsPromise. Linear in the number of cells.
+ * sides: those that are closed, 0 for none. elevations: rows * cols. ponds: rows * cols, the result. level, cells, volume: the
+ * columns, of one length; rows * cols always suffice. work: at least 4 * rows * cols. Columns of length 0 (null pointers will do)
+ * ask for the number of ponds alone: it is the place of number 14, and number 0 says that there are none.
+ * Numbers: 5 6 17 7 8 9 18 14. Promise: PondsPromise. Linear in the number of cells.
  */
-tervuola_counted tervuola_ponds(uint32_t rows, uint32_t cols,
+tervuola_counted tervuola_ponds(uint32_t rows, uint32_t cols, uint32_t sides,
                                 const int16_t *elevations, size_t elevations_len,
                                 uint32_t *ponds, size_t ponds_len,
                                 int16_t *level, size_t level_len,
@@ -164,10 +186,11 @@ tervuola_counted tervuola_ponds(uint32_t rows, uint32_t cols,
 
 /*
  * The flow direction of each cell of a sheet as it is handed in (it is not filled first): 0 at a void.
- * elevations: rows * cols. codes: rows * cols, the result. work: at least 4 * rows * cols.
- * Numbers: 5 6 7 8 9 10. Promise: DirectionsPromise.
+ * sides: those that are closed, 0 for none. elevations: rows * cols. codes: rows * cols, the result. work: at least
+ * 4 * rows * cols.
+ * Numbers: 5 6 17 7 8 9 18 10. Promise: DirectionsPromise.
  */
-tervuola_answer tervuola_directions(uint32_t rows, uint32_t cols,
+tervuola_answer tervuola_directions(uint32_t rows, uint32_t cols, uint32_t sides,
                                     const int16_t *elevations, size_t elevations_len,
                                     uint8_t *codes, size_t codes_len,
                                     uint32_t *work, size_t work_len);
@@ -194,10 +217,11 @@ tervuola_answer tervuola_labels(uint32_t rows, uint32_t cols,
 
 /*
  * The four results in one call: the filled sheet, its directions, and the counts and labels of these.
- * elevations: rows * cols. filled, codes, counts, labels: rows * cols each, the results. work: at least 4 * rows * cols.
- * Numbers: 5 6 7 8 9. Promise: DrainPromise, with demand 3 (Guarantee.antt) for every accepted sheet.
+ * sides: those that are closed, 0 for none. elevations: rows * cols. filled, codes, counts, labels: rows * cols each, the results.
+ * work: at least 4 * rows * cols.
+ * Numbers: 5 6 17 7 8 9 18. Promise: DrainPromise, with demand 3 (Guarantee.antt) for every accepted sheet.
  */
-tervuola_answer tervuola_drain(uint32_t rows, uint32_t cols,
+tervuola_answer tervuola_drain(uint32_t rows, uint32_t cols, uint32_t sides,
                                const int16_t *elevations, size_t elevations_len,
                                int16_t *filled, size_t filled_len,
                                uint8_t *codes, size_t codes_len,
@@ -208,10 +232,10 @@ tervuola_answer tervuola_drain(uint32_t rows, uint32_t cols,
 /*
  * A culvert under a road bank: the four results of the sheet with the cell at the level. The elevations themselves are not changed.
  * cell: the number of a data cell, an outlet too. level: at most its elevation, and not the void; equal to it, it changes nothing.
- * Buffers as of tervuola_drain.
- * Numbers: 5 6 7 8 9 15 16. Promise: CulvertPromise, with demand 3 for every accepted culvert, the opened sheet being the input.
+ * Sides and buffers as of tervuola_drain.
+ * Numbers: 5 6 17 7 8 9 15 16 18. Promise: CulvertPromise, with demand 3 for every accepted culvert, the opened sheet being the input.
  */
-tervuola_answer tervuola_culvert(uint32_t rows, uint32_t cols,
+tervuola_answer tervuola_culvert(uint32_t rows, uint32_t cols, uint32_t sides,
                                  const int16_t *elevations, size_t elevations_len,
                                  uint32_t cell, int16_t level,
                                  int16_t *filled, size_t filled_len,

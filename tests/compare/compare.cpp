@@ -1,17 +1,18 @@
-// Every call of libtervuola.a against the second program as it is after request 2, on its sheets, on sheets of ponds, on random codes,
-// on cells and levels that are and are not there, and on wrong lengths.
-//   compare ROUNDS [SEED]      sheets up to 40 by 40
+// Every call of libtervuola.a against the second program as it is after request 3, on its sheets, on sheets of ponds, on sheets cut from
+// larger ones, under all closed sides, on random codes, on cells and levels that are and are not there, and on wrong lengths.
+//   compare ROUNDS [SEED]      sheets up to 5 by 5, each size under each number of closed sides; then ROUNDS of sheets up to 40 by 40
 //   compare big KIND SIDE      one large sheet, by the second program's fast layer
 // A result buffer is lent with guard elements on both sides, and holds a pattern before the call; a no must leave it, and the work buffer
-// up to question 9.
+// up to question 9, which 17 comes before.
 #include "../../include/tervuola.h"
 #include "../second/gen.hpp"
 #include <cstring>
 using namespace oracle;
 
 static u64 checks = 0;
+static const char *part = "round";
 [[noreturn]] static void fail(const char *call, const char *what, u64 round) {
-  fprintf(stderr, "compare: %s: %s differs (round %llu)\n", call, what, (unsigned long long)round);
+  fprintf(stderr, "compare: %s: %s differs (%s %llu)\n", call, what, part, (unsigned long long)round);
   exit(1);
 }
 
@@ -58,8 +59,8 @@ static void same_work(const char *call, u32 number, const Lent<u32> &work, u64 r
   checks++;
   if (!work.guarded())
     fail(call, "a place outside the work buffer", round);
-  if (number >= 1 && number <= 9 && !work.untouched())
-    fail(call, "the work buffer beside a number up to 9", round);
+  if (((number >= 1 && number <= 9) || number == 17) && !work.untouched())
+    fail(call, "the work buffer beside a number up to 9 or 17", round);
 }
 
 // what is lent, with now and then a wrong length or a wrong size
@@ -82,6 +83,12 @@ struct Lengths {
     static const u64 odd[] = {0, 4001, 65536, 4294967295u};
     return odd[g.below(4)];
   }
+  u64 closed(u64 k) {
+    if (!wrong || !g.chance(20))
+      return k;
+    static const u64 odd[] = {16, 17, 31, 255, 256, 65536, 2147483648u, 4294967295u};
+    return odd[g.below(8)];
+  }
 };
 template <class T> static V<T> resized(const V<T> &v, size_t n) {
   V<T> r(v);
@@ -89,20 +96,65 @@ template <class T> static V<T> resized(const V<T> &v, size_t n) {
   return r;
 }
 
+// the answers that a call has given
+static std::map<std::string, std::map<u32, u64>> answers;
+// An answer of a call that works out outlets: the closed sides that it has accepted, and how often it has answered no where another
+// question, asked later, has the answer no as well.
+static std::map<std::string, std::set<u64>> accepted_sides;
+static std::map<std::string, std::map<std::pair<u32, u32>, u64>> before;
+static void outlets_answer(const char *call, u32 number, const Desc &d, const V<i16> &e, bool results, const Lent<u32> &work) {
+  auto &met = before[call];
+  if (number == 0)
+    accepted_sides[call].insert(d.closed);
+  if ((number == 5 || number == 6) && d.closed > 15)
+    met[{number, 17}]++;
+  if (number == 17) {
+    met[{17, 7}] += e.size() != d.n();
+    met[{17, 8}] += !results;
+    met[{17, 9}] += work.n < 4 * d.n();
+  }
+  if (number == 9 || number == 15 || number == 16)
+    met[{number, 18}] += first_stranded(d, e) < d.n();
+}
+
 // A call from one sheet to another; `said` is the second program's answer to it.
 template <class In, class Out>
 using sheet_call = tervuola_answer (*)(u32, u32, const In *, size_t, Out *, size_t, u32 *, size_t);
-template <class In, class Out, class Said>
-static void sheet_round(const char *name, sheet_call<In, Out> call, Said said, const Desc &d, const V<In> &in0, Lengths len, u64 round) {
+// one that works out outlets has the closed sides too
+template <class Out>
+using outlets_call = tervuola_answer (*)(u32, u32, u32, const i16 *, size_t, Out *, size_t, u32 *, size_t);
+template <class In, class Out, class Call, class Said>
+static void one_sheet_round(const char *name, Call call, Said said, const Desc &d, const V<In> &in0, Lengths len, u64 round) {
   V<In> in = resized(in0, len.of(in0.size()));
   Lent<Out> out(len.of(in0.size()));
   Lent<u32> work(len.work(in0.size()));
   V<Out> want = out.list();
   Reply r = said(d, in, want, work.n);
-  tervuola_answer a = call((u32)d.rows, (u32)d.cols, in.data(), in.size(), out.at(), out.n, work.at(), work.n);
+  tervuola_answer a = call(in, out, work);
   same_answer(name, a.number, a.place, r, round);
   same_list(name, "the result", out, want, round);
   same_work(name, a.number, work, round);
+  answers[name][a.number]++;
+}
+template <class In, class Out, class Said>
+static void sheet_round(const char *name, sheet_call<In, Out> call, Said said, const Desc &d, const V<In> &in0, Lengths len, u64 round) {
+  one_sheet_round<In, Out>(
+      name,
+      [&](const V<In> &in, Lent<Out> &out, Lent<u32> &work) {
+        return call((u32)d.rows, (u32)d.cols, in.data(), in.size(), out.at(), out.n, work.at(), work.n);
+      },
+      said, d, in0, len, round);
+}
+template <class Out, class Said>
+static void outlets_round(const char *name, outlets_call<Out> call, Said said, const Desc &d, const V<i16> &e0, Lengths len, u64 round) {
+  one_sheet_round<i16, Out>(
+      name,
+      [&](const V<i16> &e, Lent<Out> &out, Lent<u32> &work) {
+        tervuola_answer a = call((u32)d.rows, (u32)d.cols, (u32)d.closed, e.data(), e.size(), out.at(), out.n, work.at(), work.n);
+        outlets_answer(name, a.number, d, e, out.n == d.n(), work);
+        return a;
+      },
+      said, d, e0, len, round);
 }
 static Reply said_counts(const Desc &d, const V<u8> &c, V<u32> &out, u64 work) { return call_counts(d.rows, d.cols, c, out, work); }
 static Reply said_labels(const Desc &d, const V<u8> &c, V<u32> &out, u64 work) { return call_labels(d.rows, d.cols, c, out, work); }
@@ -161,8 +213,6 @@ static void pour_points_round(const Desc &d, const V<i16> &e0, gen::Rng &g, Leng
   same_list("pour_points", "the elevations", z, wz, round);
   same_list("pour_points", "the cells", c, wc, round);
 }
-// the answers that a call has given
-static std::map<std::string, std::map<u32, u64>> answers;
 // A call for the four results; `said` is the second program's answer to it. The sheet handed in must stay as it was. Gives the number and the
 // filled sheet.
 struct Filled {
@@ -170,7 +220,7 @@ struct Filled {
   V<i16> filled;
 };
 template <class Call, class Said>
-static Filled four_round(const char *name, Call call, Said said, const V<i16> &e, size_t cells, Lengths len, u64 round) {
+static Filled four_round(const char *name, Call call, Said said, const Desc &d, const V<i16> &e, size_t cells, Lengths len, u64 round) {
   Lent<i16> f(len.of(cells));
   Lent<u8> k(len.of(cells));
   Lent<u32> n(len.of(cells)), l(len.of(cells)), work(len.work(cells));
@@ -191,16 +241,43 @@ static Filled four_round(const char *name, Call call, Said said, const V<i16> &e
   if (e != input)
     fail(name, "the sheet handed in", round);
   answers[name][a.number]++;
+  outlets_answer(name, a.number, d, e, f.n == d.n() && k.n == d.n() && n.n == d.n() && l.n == d.n(), work);
   return {a.number, f.list()};
+}
+// accepted sheets with a cell on the border that is no outlet and flows inward, and of these the ones where such a cell has water on it,
+// and where it has no lower neighbour on the filled sheet
+static u64 inward = 0, inward_wet = 0, inward_flat = 0;
+static void closed_border(const Desc &d, const V<i16> &e, const V<i16> &filled) {
+  V<u8> out = fast::outlets(d, e);
+  bool some = false, wet = false, flat = false;
+  for (u64 c = 0; c < d.n(); c++) {
+    bool border = c < d.cols || c >= d.n() - d.cols || c % d.cols == 0 || c % d.cols == d.cols - 1;
+    if (!border || out[c] || e[c] == VOIDMARK)
+      continue;
+    bool lower = false;
+    for (int p = 0; p < 8; p++) {
+      i64 j = at_step(d.rows, d.cols, c, p);
+      lower = lower || (j >= 0 && filled[(u64)j] < filled[c]);
+    }
+    some = true;
+    wet = wet || filled[c] > e[c];
+    flat = flat || !lower;
+  }
+  inward += some;
+  inward_wet += wet;
+  inward_flat += flat;
 }
 static void drain_round(const Desc &d, const V<i16> &e0, Lengths len, u64 round) {
   V<i16> e = resized(e0, len.of(e0.size()));
-  four_round(
+  Filled r = four_round(
       "drain",
       [&](Lent<i16> &f, Lent<u8> &k, Lent<u32> &n, Lent<u32> &l, Lent<u32> &work) {
-        return tervuola_drain((u32)d.rows, (u32)d.cols, e.data(), e.size(), f.at(), f.n, k.at(), k.n, n.at(), n.n, l.at(), l.n, work.at(), work.n);
+        return tervuola_drain((u32)d.rows, (u32)d.cols, (u32)d.closed, e.data(), e.size(), f.at(), f.n, k.at(), k.n, n.at(), n.n, l.at(), l.n,
+                              work.at(), work.n);
       },
-      [&](Four &want, u64 work) { return call_four(d, e, want, work); }, e, e0.size(), len, round);
+      [&](Four &want, u64 work) { return call_four(d, e, want, work); }, d, e, e0.size(), len, round);
+  if (r.number == 0)
+    closed_border(d, e, r.filled);
 }
 // A cell and a level for it: mostly a data cell, now and then any cell or none; a level below, equal, above, or any.
 static u32 some_cell(gen::Rng &g, const V<i16> &e) {
@@ -232,10 +309,10 @@ static void culvert_round(const Desc &d, const V<i16> &e0, gen::Rng &g, Lengths 
   Filled r = four_round(
       "culvert",
       [&](Lent<i16> &f, Lent<u8> &k, Lent<u32> &n, Lent<u32> &l, Lent<u32> &work) {
-        return tervuola_culvert((u32)d.rows, (u32)d.cols, e.data(), e.size(), cell, level, f.at(), f.n, k.at(), k.n, n.at(), n.n, l.at(), l.n,
-                                work.at(), work.n);
+        return tervuola_culvert((u32)d.rows, (u32)d.cols, (u32)d.closed, e.data(), e.size(), cell, level, f.at(), f.n, k.at(), k.n, n.at(), n.n,
+                                l.at(), l.n, work.at(), work.n);
       },
-      [&](Four &want, u64 work) { return call_culvert(d, e, V<u64>{cell}, V<i16>{level}, want, work); }, e, e0.size(), len, round);
+      [&](Four &want, u64 work) { return call_culvert(d, e, V<u64>{cell}, V<i16>{level}, want, work); }, d, e, e0.size(), len, round);
   if (r.number == 0 && level < e[cell]) {
     opened_lower++;
     opened_border += cell < d.cols || cell >= d.n() - d.cols || cell % d.cols == 0 || cell % d.cols == d.cols - 1;
@@ -283,6 +360,15 @@ static V<i16> pond_sheet(gen::Rng &g, u64 form, u64 rows, u64 cols) {
         x = VOIDMARK;
   return e;
 }
+// A sheet cut from larger country: ponds and flats go on across its border.
+static V<i16> cut_sheet(gen::Rng &g, u64 form, u64 rows, u64 cols) {
+  u64 up = g.below(4), left = g.below(4), wide = left + cols + g.below(4);
+  V<i16> all = pond_sheet(g, form, up + rows + g.below(4), wide), e(rows * cols);
+  for (u64 r = 0; r < rows; r++)
+    for (u64 q = 0; q < cols; q++)
+      e[r * cols + q] = all[(up + r) * wide + left + q];
+  return e;
+}
 // the most ponds of one sheet
 static u64 most_ponds = 0;
 static void ponds_round(const Desc &d, const V<i16> &e0, bool exact, gen::Rng &g, Lengths len, u64 round) {
@@ -298,8 +384,8 @@ static void ponds_round(const Desc &d, const V<i16> &e0, bool exact, gen::Rng &g
   V<i16> wz = z.list();
   V<u64> wv = v.list();
   Reply r = call_ponds(d, e, wp, wz, wc, wv, work.n);
-  tervuola_counted x = tervuola_ponds((u32)d.rows, (u32)d.cols, e.data(), e.size(), p.at(), p.n, z.at(), z.n, c.at(), c.n, v.at(), v.n,
-                                      work.at(), work.n);
+  tervuola_counted x = tervuola_ponds((u32)d.rows, (u32)d.cols, (u32)d.closed, e.data(), e.size(), p.at(), p.n, z.at(), z.n, c.at(), c.n,
+                                      v.at(), v.n, work.at(), work.n);
   same_answer("ponds", x.number, x.place, r, round);
   if (x.count != r.count)
     fail("ponds", "the number of ponds", round);
@@ -309,6 +395,9 @@ static void ponds_round(const Desc &d, const V<i16> &e0, bool exact, gen::Rng &g
   same_list("ponds", "the volumes", v, wv, round);
   same_work("ponds", x.number, work, round);
   answers["ponds"][x.number]++;
+  outlets_answer("ponds", x.number, d, e, p.n == d.n() && c.n == z.n && v.n == z.n, work);
+  if (x.number == 18)
+    before["ponds"][{18, 14}] += z.n < count;
   most_ponds = std::max<u64>(most_ponds, x.count);
 }
 static void read_round(const std::string &t, gen::Rng &g, u64 round) {
@@ -360,10 +449,59 @@ static bool every_answer(const char *call, const V<u32> &numbers) {
   printf("\n");
   return all;
 }
+// the same of a call that works out outlets: 17 and 18 are met in their order among the others (18 always comes before 10: without an
+// outlet the lowest cell has no level), and each number of closed sides has been accepted
+static bool every_outlets_answer(const char *call, const V<u32> &numbers, V<std::pair<u32, u32>> order) {
+  bool all = every_answer(call, numbers);
+  order.insert(order.begin(), {{5, 17}, {6, 17}, {17, 7}, {17, 8}, {17, 9}, {9, 18}});
+  printf("compare: %s, times that two would have been answered no:", call);
+  for (auto &two : order) {
+    printf("  %u before %u: %llu", two.first, two.second, (unsigned long long)before[call][two]);
+    all = all && before[call][two];
+  }
+  printf("; closed sides accepted: %llu of 16\n", (unsigned long long)accepted_sides[call].size());
+  return all && accepted_sides[call].size() == 16;
+}
+
+// the five calls that work out outlets, on one sheet
+static void outlets_rounds(const Desc &d, const V<i16> &e, gen::Rng &g, Lengths len, u64 round) {
+  outlets_round("fill", tervuola_fill, call_fill, d, e, len, round);
+  outlets_round("directions", tervuola_directions, call_directions, d, e, len, round);
+  drain_round(d, e, len, round);
+  ponds_round(d, e, false, g, len, round);
+  culvert_round(d, e, g, len, round);
+}
+
+// every size up to 5 by 5 under every number of closed sides: a flat, two that are cut from larger ones, and one of these with a void; each
+// with the right lengths and with wrong ones
+static void small_sheets(u64 seed) {
+  ENGINE = LITERAL;
+  part = "small sheet";
+  for (u64 i = 0; i < 25 * 16 * 4 * 2; i++) {
+    gen::Rng g(seed * 1000003 + i);
+    Desc d;
+    d.rows = 1 + i / 128 % 5;
+    d.cols = 1 + i / 640;
+    d.closed = i / 8 % 16;
+    u64 form = i / 2 % 4;
+    V<i16> e = form ? cut_sheet(g, g.below(FORMS), d.rows, d.cols) : V<i16>(d.n(), (i16)g.in(-2, 2));
+    if (form == 3)
+      e[g.below(d.n())] = VOIDMARK;
+    V<i16> filled = oracle::fill(d, e);
+    Lengths len{g, i % 2 == 1};
+    d.rows = len.side(d.rows);
+    d.cols = len.side(d.cols);
+    d.closed = len.closed(d.closed);
+    outlets_rounds(d, e, g, len, i);
+    outlets_round("directions", tervuola_directions, call_directions, d, filled, len, i);
+  }
+  part = "round";
+}
 
 static int rounds(u64 count, u64 seed) {
   auto &kinds = gen::kinds();
   auto &bad = gen::badkinds();
+  small_sheets(seed);
   for (u64 i = 0; i < count; i++) {
     gen::Rng g(seed * 1000003 + i);
     u64 side = g.chance(70) ? 9 : g.chance(70) ? 20 : 40;
@@ -371,26 +509,25 @@ static int rounds(u64 count, u64 seed) {
     Desc d;
     d.rows = s.rows;
     d.cols = s.cols;
+    d.closed = g.chance(25) ? 0 : g.chance(10) ? 15 : g.below(16);
     ENGINE = d.n() <= 100 ? LITERAL : FAST;
     Lengths len{g, g.chance(20)};
     V<i16> filled = oracle::fill(d, s.e);
     V<u8> codes = some_codes(g, d, s.e);
     d.rows = len.side(d.rows);
     d.cols = len.side(d.cols);
-    sheet_round("fill", tervuola_fill, call_fill, d, s.e, len, i);
-    sheet_round("directions", tervuola_directions, call_directions, d, s.e, len, i);
-    sheet_round("directions", tervuola_directions, call_directions, d, filled, len, i);
+    d.closed = len.closed(d.closed);
+    outlets_rounds(d, s.e, g, len, i);
+    outlets_round("directions", tervuola_directions, call_directions, d, filled, len, i);
     sheet_round("counts", tervuola_counts, said_counts, d, codes, len, i);
     sheet_round("labels", tervuola_labels, said_labels, d, codes, len, i);
     watersheds_round(d, codes, g, len, i);
     starts_round(d, codes, g, len, i);
     pour_points_round(d, s.e, g, len, i);
-    drain_round(d, s.e, len, i);
     V<i16> banks = pond_sheet(g, i % FORMS, s.rows, s.cols);
-    ponds_round(d, s.e, false, g, len, i);
     ponds_round(d, banks, false, g, len, i);
-    culvert_round(d, s.e, g, len, i);
     culvert_round(d, banks, g, len, i);
+    outlets_rounds(d, cut_sheet(g, i % FORMS, s.rows, s.cols), g, len, i);
     read_round(gen::badtext(bad[i % bad.size()], g.g() % 1000000), g, i);
     if (s.rows * s.cols <= 2304)
       read_round(gen::text(s), g, i);
@@ -398,10 +535,16 @@ static int rounds(u64 count, u64 seed) {
   printf("compare: %llu rounds, %llu comparisons, all equal\n", (unsigned long long)count, (unsigned long long)checks);
   printf("compare: up to %llu ponds; %llu cells opened to a lower level, %llu of them on the border, %llu that lower the filled sheet elsewhere\n",
          (unsigned long long)most_ponds, (unsigned long long)opened_lower, (unsigned long long)opened_border, (unsigned long long)opened_banks);
-  bool all = every_answer("drain", {0, 5, 6, 7, 8, 9});
-  all = every_answer("ponds", {0, 5, 6, 7, 8, 9, 14}) && all;
-  all = every_answer("culvert", {0, 5, 6, 7, 8, 9, 15, 16}) && all;
-  return checks && all && opened_border && opened_banks ? 0 : 1;
+  printf("compare: %llu sheets where a border cell flows inward, %llu with water on such a cell, %llu with one in a flat\n",
+         (unsigned long long)inward, (unsigned long long)inward_wet, (unsigned long long)inward_flat);
+  bool all = every_answer("counts", {0, 5, 6, 7, 8, 9, 11, 12});
+  all = every_answer("labels", {0, 5, 6, 7, 8, 9, 11, 12}) && all;
+  all = every_outlets_answer("fill", {0, 5, 6, 17, 7, 8, 9, 18}, {}) && all;
+  all = every_outlets_answer("directions", {0, 5, 6, 17, 7, 8, 9, 18, 10}, {}) && all;
+  all = every_outlets_answer("drain", {0, 5, 6, 17, 7, 8, 9, 18}, {}) && all;
+  all = every_outlets_answer("ponds", {0, 5, 6, 17, 7, 8, 9, 18, 14}, {{18, 14}}) && all;
+  all = every_outlets_answer("culvert", {0, 5, 6, 17, 7, 8, 9, 15, 16, 18}, {{15, 18}, {16, 18}}) && all;
+  return checks && all && opened_border && opened_banks && inward_wet && inward_flat ? 0 : 1;
 }
 
 static int big(const char *kind, u64 side) {
@@ -415,8 +558,8 @@ static int big(const char *kind, u64 side) {
   V<i16> filled = oracle::fill(d, s.e);
   V<u8> codes;
   directions(d, filled, codes);
-  sheet_round("fill", tervuola_fill, call_fill, d, s.e, len, 0);
-  sheet_round("directions", tervuola_directions, call_directions, d, filled, len, 0);
+  outlets_round("fill", tervuola_fill, call_fill, d, s.e, len, 0);
+  outlets_round("directions", tervuola_directions, call_directions, d, filled, len, 0);
   sheet_round("counts", tervuola_counts, said_counts, d, codes, len, 0);
   sheet_round("labels", tervuola_labels, said_labels, d, codes, len, 0);
   watersheds_round(d, codes, g, len, 0);
@@ -427,6 +570,10 @@ static int big(const char *kind, u64 side) {
   ponds_round(d, banks, true, g, len, 0);
   for (int k = 0; k < 3; k++)
     culvert_round(d, k ? banks : s.e, g, len, 0);
+  d.closed = WEST + EAST + NORTH;
+  outlets_rounds(d, s.e, g, len, 0);
+  d.closed += SOUTH;
+  drain_round(d, s.e, len, 0);
   if (!answers["culvert"][0]) {
     fprintf(stderr, "compare: no culvert was opened\n");
     return 1;
@@ -436,7 +583,7 @@ static int big(const char *kind, u64 side) {
 }
 
 int main(int argc, char **argv) {
-  LEVEL = 2;
+  LEVEL = 3;
   if (argc == 4 && !strcmp(argv[1], "big"))
     return big(argv[2], strtoull(argv[3], 0, 10));
   if (argc < 2) {

@@ -1,6 +1,7 @@
 // Demand 3 by brute force on tiny sheets, as a test of the statement: every chain without repeats, every rival sheet from the input up to 2.
-// It looks only at the four results of tervuola_drain and tervuola_culvert and at document 01's sentences, with the elevations handed in as
-// the input, and with the opened sheet.
+// It looks only at the four results of tervuola_drain and tervuola_culvert and at the sentences of documents 01 and 02, with the elevations
+// handed in as the input, and with the opened sheet, under every number of closed sides. A sheet is refused just where some data cell has no
+// chain to an outlet.
 #include "../../include/tervuola.h"
 #include <cstdio>
 #include <cstdlib>
@@ -11,6 +12,7 @@ using std::vector;
 
 static const int STEP[8][2] = {{-1, 1}, {0, 1}, {1, 1}, {1, 0}, {1, -1}, {0, -1}, {-1, -1}, {-1, 0}};
 static int rows, cols;
+static uint32_t sides;    // those that are closed
 static vector<int16_t> e; // the input
 static unsigned long facts = 0;
 
@@ -19,28 +21,40 @@ static int at_step(int c, int p) {
   return r < 0 || q < 0 || r >= rows || q >= cols ? -1 : r * cols + q;
 }
 static bool data(int c) { return e[(size_t)c] != TERVUOLA_VOID; }
-static bool outlet(int c) {
-  if (!data(c))
-    return false;
-  for (int p = 0; p < 8; p++) {
-    int n = at_step(c, p);
-    if (n < 0 || !data(n))
-      return true;
+// the step at p leads out: "through an open side by a straight step", or to a void
+static bool leads_out(int c, int p) {
+  int n = at_step(c, p);
+  if (n >= 0)
+    return !data(n);
+  switch (1 << p) {
+  case TERVUOLA_WEST: return !(sides & TERVUOLA_CLOSED_WEST);
+  case TERVUOLA_EAST: return !(sides & TERVUOLA_CLOSED_EAST);
+  case TERVUOLA_NORTH: return !(sides & TERVUOLA_CLOSED_NORTH);
+  case TERVUOLA_SOUTH: return !(sides & TERVUOLA_CLOSED_SOUTH);
+  default: return false;
   }
-  return false;
 }
+// the first such step in document 01's sequence, as a code; 0 where there is none
+static int outlet_code(int c) {
+  for (int p : {5, 1, 7, 3, 0, 2, 4, 6})
+    if (leads_out(c, p))
+      return 1 << p;
+  return 0;
+}
+static bool outlet(int c) { return data(c) && outlet_code(c); }
 static void hold(bool fact, const char *what) {
   facts++;
   if (fact)
     return;
-  printf("demand 3: %s fails on %d x %d:", what, rows, cols);
+  printf("demand 3: %s fails on %d x %d, sides %u:", what, rows, cols, (unsigned)sides);
   for (int16_t x : e)
     printf(" %d", x);
   printf("\n");
   exit(1);
 }
 
-// the lowest highest elevation over all chains without repeats from c to an outlet
+// the lowest highest elevation over all chains without repeats from c to an outlet; best stays where there is none
+static const int NO_CHAIN = 32768;
 static void chains(int c, int high, vector<char> &on, int &best) {
   if (e[(size_t)c] > high)
     high = e[(size_t)c];
@@ -115,12 +129,14 @@ static void judge(const Four &four) {
       x = k;
     }
     hold(outlet(last), "ending at an outlet");
+    hold(codes[(size_t)last] == outlet_code(last), "the code of the outlet");
     hold(labels[i] == (uint32_t)last + 1, "the label");
     hold(high == filled[i], "the highest elevation of the route");
     hold(filled[i] >= e[i], "not below the input");
     vector<char> on(n, 0);
-    int best = 32767;
+    int best = NO_CHAIN;
     chains(c, -32768, on, best);
+    hold(best != NO_CHAIN, "a chain to an outlet");
     hold(best >= high, "no lower chain");
   }
   for (size_t i = 0; i < n; i++)
@@ -146,13 +162,41 @@ static void judge(const Four &four) {
   }
 }
 
-static Four drained() {
+// 0, or 18 with the first data cell that has no chain to an outlet as place; that all have one where it is 0 is for judge to see
+static unsigned long refused = 0;
+static bool accepted(tervuola_answer a) {
+  if (a.number == 0)
+    return true;
+  hold(a.number == TERVUOLA_NO_OUTLET && a.place < e.size() && data((int)a.place), "a number");
+  for (int c = 0; c <= (int)a.place; c++) {
+    vector<char> on(e.size(), 0);
+    int best = NO_CHAIN;
+    if (data(c))
+      chains(c, -32768, on, best);
+    hold(!data(c) || (best == NO_CHAIN) == (c == (int)a.place), "18 and its place");
+  }
+  refused++;
+  return false;
+}
+static bool drained(Four &r) {
   size_t n = e.size();
-  Four r(n);
-  tervuola_answer a = tervuola_drain((uint32_t)rows, (uint32_t)cols, e.data(), n, r.filled.data(), n, r.codes.data(), n, r.counts.data(), n,
-                                     r.labels.data(), n, r.work.data(), 4 * n);
-  hold(a.number == 0, "acceptance");
-  return r;
+  return accepted(tervuola_drain((uint32_t)rows, (uint32_t)cols, sides, e.data(), n, r.filled.data(), n, r.codes.data(), n, r.counts.data(), n,
+                                 r.labels.data(), n, r.work.data(), 4 * n));
+}
+// sheets in all, and accepted ones with water against a closed side
+static unsigned long sheets = 0, closed_lakes = 0;
+static void plain_sheet() {
+  Four r(e.size());
+  sheets++;
+  if (!drained(r))
+    return;
+  judge(r);
+  bool lake = false;
+  for (int c = 0; c < (int)e.size(); c++) {
+    bool border = c < cols || c >= (rows - 1) * cols || c % cols == 0 || c % cols == cols - 1;
+    lake = lake || (border && r.filled[(size_t)c] > e[(size_t)c]);
+  }
+  closed_lakes += lake;
 }
 
 // culverts in all, and those at an inner cell and at an outlet that lower the filled sheet at another cell
@@ -160,46 +204,49 @@ static unsigned long opened = 0, inner_banks = 0, outlet_banks = 0;
 // the call has the elevations as they were handed in, which stay as they were, and is judged on the opened sheet
 static void opened_sheet(size_t cell, int16_t level) {
   size_t n = e.size();
-  Four plain = drained(), r(n);
+  Four plain(n), r(n);
   vector<int16_t> given(e), kept(e);
-  tervuola_answer a = tervuola_culvert((uint32_t)rows, (uint32_t)cols, given.data(), n, (uint32_t)cell, level, r.filled.data(), n, r.codes.data(), n,
-                                       r.counts.data(), n, r.labels.data(), n, r.work.data(), 4 * n);
-  hold(a.number == 0, "acceptance of the culvert");
-  hold(given == kept, "the sheet handed in");
+  bool was = drained(plain);
   e[cell] = level;
-  judge(r);
+  bool is = accepted(tervuola_culvert((uint32_t)rows, (uint32_t)cols, sides, given.data(), n, (uint32_t)cell, level, r.filled.data(), n,
+                                      r.codes.data(), n, r.counts.data(), n, r.labels.data(), n, r.work.data(), 4 * n));
+  hold(given == kept, "the sheet handed in");
+  hold(is == was, "the same answer with the culvert");
   opened++;
-  plain.filled[cell] = r.filled[cell];
-  if (plain.filled != r.filled)
-    (outlet((int)cell) ? outlet_banks : inner_banks)++;
+  if (is) {
+    judge(r);
+    plain.filled[cell] = r.filled[cell];
+    if (plain.filled != r.filled)
+      (outlet((int)cell) ? outlet_banks : inner_banks)++;
+  }
   e = kept;
 }
 
 int main() {
   std::mt19937 g(1);
-  unsigned long sheets = 0;
-  for (int size = 0; size < 4; size++) { // all sheets of these sizes
-    static const int sides[4][2] = {{1, 1}, {1, 4}, {2, 2}, {2, 3}};
-    rows = sides[size][0], cols = sides[size][1];
+  for (int size = 0; size < 5; size++) { // all sheets of these sizes, under all closed sides
+    static const int sizes[5][2] = {{1, 1}, {1, 4}, {4, 1}, {2, 2}, {2, 3}};
+    rows = sizes[size][0], cols = sizes[size][1];
     size_t n = (size_t)(rows * cols);
     unsigned long all = 1;
     for (size_t i = 0; i < n; i++)
       all *= 4;
-    for (unsigned long k = 0; k < all; k++) {
+    for (unsigned long k = 0; k < 16 * all; k++) {
+      sides = (uint32_t)(k % 16);
       e.assign(n, 0);
-      unsigned long v = k;
+      unsigned long v = k / 16;
       for (auto &x : e)
         x = v % 4 == 3 ? (int16_t)TERVUOLA_VOID : (int16_t)(v % 4), v /= 4;
-      judge(drained());
-      sheets++;
-      for (size_t c = 0; c < n; c++) // and each with every cell opened to every level, or one in eight of these
+      plain_sheet();
+      for (size_t c = 0; c < n; c++) // and each with every cell opened to every level, or one in 64 of these
         for (int level = -1; data((int)c) && level <= e[c]; level++)
-          if (n <= 4 || g() % 8 == 0)
+          if (n <= 4 || g() % 64 == 0)
             opened_sheet(c, (int16_t)level);
     }
   }
   for (int k = 0; k < 1500; k++) { // some of these
     rows = k % 3 == 0 ? 3 : k % 3 == 1 ? 4 : 3, cols = k % 3 == 2 ? 4 : 3;
+    sides = g() % 4 ? g() % 16 : 0;
     e.assign((size_t)(rows * cols), 0);
     unsigned voids = g() % 3 ? 0 : 10;
     for (auto &x : e)
@@ -208,14 +255,14 @@ int main() {
       for (int q = 1; q + 1 < cols; q++)
         if (g() % 2)
           e[(size_t)(r * cols + q)] = 0;
-    judge(drained());
-    sheets++;
+    plain_sheet();
     size_t c = g() % e.size();
     if (data((int)c))
       opened_sheet(c, (int16_t)((int)(g() % (unsigned)(e[c] + 2)) - 1));
   }
   for (int k = 0; k < 100; k++) { // an inner cell as the bank of the other one, which lies deeper and has a high border
     rows = k % 2 ? 3 : 4, cols = k % 2 ? 4 : 3;
+    sides = g() % 2 ? g() % 16 : 0;
     e.assign(12, 2);
     size_t hollow = k % 2 ? 5 : 4, bank = k % 2 ? 6 : 7, out = k % 2 ? 7 : 10; // in a row, or in a column
     e[hollow] = 0;
@@ -225,7 +272,8 @@ int main() {
       e[0] = TERVUOLA_VOID;
     opened_sheet(bank, (int16_t)((int)(g() % 2) - 1));
   }
-  printf("demand 3: %lu facts on %lu tiny sheets, and on %lu opened ones, %lu of them through an inner bank, %lu at an outlet\n", facts, sheets, opened,
-         inner_banks, outlet_banks);
-  return inner_banks && outlet_banks ? 0 : 1;
+  printf("demand 3: %lu facts on %lu tiny sheets under all closed sides, and on %lu opened ones, %lu of them through an inner bank, %lu at an outlet\n",
+         facts, sheets, opened, inner_banks, outlet_banks);
+  printf("demand 3: %lu sheets with water on a border cell that is no outlet; %lu times no chain to an outlet, and 18\n", closed_lakes, refused);
+  return inner_banks && outlet_banks && closed_lakes && refused ? 0 : 1;
 }

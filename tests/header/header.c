@@ -11,11 +11,17 @@
         }                                                \
     } while (0)
 
-/* the types of a cell and of its level, to the letter: a declaration that differs is refused */
+/* the calls that take closed sides, and the types of a cell and of its level, to the letter: a declaration that differs is refused */
 #ifdef __cplusplus
 extern "C" {
 #endif
-tervuola_answer tervuola_culvert(uint32_t, uint32_t, const int16_t *, size_t, uint32_t, int16_t, int16_t *, size_t, uint8_t *, size_t,
+tervuola_answer tervuola_fill(uint32_t, uint32_t, uint32_t, const int16_t *, size_t, int16_t *, size_t, uint32_t *, size_t);
+tervuola_counted tervuola_ponds(uint32_t, uint32_t, uint32_t, const int16_t *, size_t, uint32_t *, size_t, int16_t *, size_t, uint32_t *, size_t,
+                                uint64_t *, size_t, uint32_t *, size_t);
+tervuola_answer tervuola_directions(uint32_t, uint32_t, uint32_t, const int16_t *, size_t, uint8_t *, size_t, uint32_t *, size_t);
+tervuola_answer tervuola_drain(uint32_t, uint32_t, uint32_t, const int16_t *, size_t, int16_t *, size_t, uint8_t *, size_t, uint32_t *, size_t,
+                               uint32_t *, size_t, uint32_t *, size_t);
+tervuola_answer tervuola_culvert(uint32_t, uint32_t, uint32_t, const int16_t *, size_t, uint32_t, int16_t, int16_t *, size_t, uint8_t *, size_t,
                                  uint32_t *, size_t, uint32_t *, size_t, uint32_t *, size_t);
 #ifdef __cplusplus
 }
@@ -42,16 +48,17 @@ int main(void)
     EXPECT(TERVUOLA_MAX_SIDE == 4000);
     EXPECT(sizeof(tervuola_answer) == 8 && sizeof(tervuola_counted) == 12 && sizeof(tervuola_dimensions) == 16);
     /* the types of the buffers; nothing is called under sizeof */
-    EXPECT(sizeof tervuola_ponds(3, 3, elevations, 9, numbers, 9, level, 2, cells, 2, volume, 2, work, 36) == sizeof(tervuola_counted));
-    EXPECT(sizeof tervuola_culvert(3, 3, elevations, 9, numbers[0], level[0], filled, 9, codes, 9, numbers, 9, numbers, 9, work, 36)
+    EXPECT(sizeof tervuola_ponds(3, 3, 0, elevations, 9, numbers, 9, level, 2, cells, 2, volume, 2, work, 36) == sizeof(tervuola_counted));
+    EXPECT(sizeof tervuola_culvert(3, 3, 0, elevations, 9, numbers[0], level[0], filled, 9, codes, 9, numbers, 9, numbers, 9, work, 36)
            == sizeof(tervuola_answer));
     EXPECT(strcmp(tervuola_text(0), "accepted") == 0);
-    for (k = 1; k <= 16; k++) {
+    for (k = 1; k <= 18; k++) {
         EXPECT(strcmp(tervuola_text(k), "unknown number") != 0);
         EXPECT(strcmp(tervuola_text(k), tervuola_text(k - 1)) != 0);
     }
     EXPECT(strstr(tervuola_text(14), "pairs") && strstr(tervuola_text(14), "ponds"));
-    EXPECT(TERVUOLA_BAD_CELL == 15 && TERVUOLA_BAD_LEVEL == 16);
-    EXPECT(strcmp(tervuola_text(17), "unknown number") == 0);
+    EXPECT(TERVUOLA_BAD_CELL == 15 && TERVUOLA_BAD_LEVEL == 16 && TERVUOLA_BAD_SIDES == 17 && TERVUOLA_NO_OUTLET == 18);
+    EXPECT(TERVUOLA_CLOSED_WEST == 1 && TERVUOLA_CLOSED_EAST == 2 && TERVUOLA_CLOSED_NORTH == 4 && TERVUOLA_CLOSED_SOUTH == 8);
+    EXPECT(strcmp(tervuola_text(19), "unknown number") == 0);
     return 0;
 }

@@ -31,7 +31,7 @@ int main(void)
     static uint32_t counts[144], numbers[144], sheds[144], work[576];
     static uint32_t smaller[20], larger[20], cell[20];
     static int16_t elevation[20];
-    tervuola_answer a = tervuola_fill(12, 12, original, 144, filled, 144, work, 576);
+    tervuola_answer a = tervuola_fill(12, 12, 0, original, 144, filled, 144, work, 576);
     ACCEPTED(a);
     SAME("the filled sheet (2b)", filled, depressionless);
     a = tervuola_counts(12, 12, directions, 144, counts, 144, work, 576);

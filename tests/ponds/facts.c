@@ -1,7 +1,8 @@
 /*
  * What is shown of the ponds, cell by cell on a large sheet, with the library's own filled sheet and no other program.
- *   facts FORM SIDE
+ *   facts FORM SIDE [CLOSED]
  * Forms: noise, rings (ponds on islands of ponds), diagonals (ponds joined at corners alone), bowl (one pond, as deep as can be), voids.
+ * CLOSED is the number of the closed sides, 0 where it is left out.
  */
 #include "tervuola.h"
 #include <stdio.h>
@@ -52,18 +53,18 @@ static int16_t elevation(uint32_t side, uint32_t r, uint32_t q)
 
 int main(int argc, char **argv)
 {
-    if (argc != 3) return 2;
+    if (argc < 3 || argc > 4) return 2;
     form = argv[1];
-    uint32_t side = (uint32_t)atol(argv[2]);
+    uint32_t side = (uint32_t)atol(argv[2]), closed = argc > 3 ? (uint32_t)atol(argv[3]) : 0;
     size_t n = (size_t)side * side, work_len = tervuola_work_size(side, side);
     int16_t *input = room(n, 2), *filled = room(n, 2);
     uint32_t *ponds = room(n, 4), *work = room(work_len, 4), *queue = room(n, 4);
     for (uint32_t r = 0; r < side; r++)
         for (uint32_t q = 0; q < side; q++) input[(size_t)r * side + q] = elevation(side, r, q);
-    holds(tervuola_fill(side, side, input, n, filled, n, work, work_len).number == 0, "the fill accepts");
+    holds(tervuola_fill(side, side, closed, input, n, filled, n, work, work_len).number == 0, "the fill accepts");
 
     /* columns of length 0 give the number, and those that are one place short are left alone */
-    tervuola_counted a = tervuola_ponds(side, side, input, n, ponds, n, NULL, 0, NULL, 0, NULL, 0, work, work_len);
+    tervuola_counted a = tervuola_ponds(side, side, closed, input, n, ponds, n, NULL, 0, NULL, 0, NULL, 0, work, work_len);
     uint32_t count = a.place;
     holds(a.number == (count ? 14 : 0) && a.count == 0 && count <= n, "14 with the number of ponds as place");
     size_t past = 7, len = count + past;
@@ -71,12 +72,12 @@ int main(int argc, char **argv)
     uint32_t *cells = room(len, 4), *cells0 = room(len, 4), *ponds0 = room(n, 4);
     uint64_t *volume = room(len, 8), *volume0 = room(len, 8);
     if (count) {
-        a = tervuola_ponds(side, side, input, n, ponds, n, level, count - 1, cells, count - 1, volume, count - 1, work, work_len);
+        a = tervuola_ponds(side, side, closed, input, n, ponds, n, level, count - 1, cells, count - 1, volume, count - 1, work, work_len);
         holds(a.number == 14 && a.place == count && a.count == 0, "14 where a place is missing");
         holds(!memcmp(level, level0, 2 * len) && !memcmp(cells, cells0, 4 * len) && !memcmp(volume, volume0, 8 * len) && !memcmp(ponds, ponds0, 4 * n),
               "a no changes no result buffer");
     }
-    a = tervuola_ponds(side, side, input, n, ponds, n, level, len, cells, len, volume, len, work, work_len);
+    a = tervuola_ponds(side, side, closed, input, n, ponds, n, level, len, cells, len, volume, len, work, work_len);
     holds(a.number == 0 && a.place == 0 && a.count == count, "the number of ponds is reported");
     holds(!memcmp(level + count, level0, 2 * past) && !memcmp(cells + count, cells0, 4 * past) && !memcmp(volume + count, volume0, 8 * past),
           "places past it are untouched");
@@ -131,7 +132,7 @@ int main(int argc, char **argv)
     holds(members == wet, "the cells add up to the wet cells");
     holds(volumes == differences, "the volumes add up to the sum of the differences over the whole sheet");
     if (!strcmp(form, "bowl")) holds(count == 1 && volume[0] == (uint64_t)(side - 2) * (side - 2) * 65534, "the deepest pond");
-    printf("ponds: %s at %u square: %u ponds, %llu of %llu cells wet, volume %llu\n", form, (unsigned)side, (unsigned)count, (unsigned long long)wet,
-           (unsigned long long)n, (unsigned long long)volumes);
+    printf("ponds: %s at %u square, closed sides %u: %u ponds, %llu of %llu cells wet, volume %llu\n", form, (unsigned)side, (unsigned)closed,
+           (unsigned)count, (unsigned long long)wet, (unsigned long long)n, (unsigned long long)volumes);
     return 0;
 }

@@ -1,5 +1,5 @@
 -- Questions 5 to 9 as gates, and what a yes to them says of the sizes.
-use mathlib.Core.Path.{_≡_, refl, sym, _∙_, ap₂}
+use mathlib.Core.Path.{_≡_, refl, sym, _∙_, ap, ap₂}
 use mathlib.Core.Bool.{Bool, true, false, not, _&&_}
 use mathlib.Core.List.{List, [], _∷_}
 use Prim.Native.Nat.{ℕ, _*_, _≤_}
@@ -10,7 +10,7 @@ use borrow.Author.Tests.{leb-true, eqb-true}
 use Rattle.grid.specs.declared.Grid.{Grid}
 use Rattle.grid.specs.declared.Answer.{Answer}
 use Rattle.grid.specs.Sheet.{size}
-use Rattle.grid.specs.Checks.{refusal, ask, inRange, askSize, allHave, askSheets, askWork}
+use Rattle.grid.specs.Checks.{refusal, ask, inRange, askSize, allHave, askLengths, askSides, askSheets, askOutlets, askWork}
 use Rattle.grid_laws.proofs.Tests.{and-left, and-right, not-is-true, not-is-false}
 use Rattle.checks.specs.Sizes.{Fits}
 use Rattle.checks.proofs.Gate.{Gate, one, both, weaken}
@@ -64,22 +64,51 @@ pub record Sheets (g : Grid) (inputs results : List ℕ) : Type 0 where
   pub inputs-have : AllAre (size g) inputs
   pub results-have : AllAre (size g) results
 
+pub lengths-gate : (g : Grid) (inputs results : List ℕ) →
+    Gate (askLengths g inputs results) (AllAre (size g) inputs × AllAre (size g) results)
+unfolding askLengths
+lengths-gate g inputs results =
+    weaken (λ f. (all-are (size g) inputs (f .0), all-are (size g) results (f .1)))
+    (both (one (allHave (size g) inputs) 7 0 (omega arith)) (one (allHave (size g) results) 8 0 (omega arith)))
+
 pub sheets-gate : (g : Grid) (inputs results : List ℕ) → Gate (askSheets g inputs results) (Sheets g inputs results)
 unfolding askSheets
 sheets-gate g inputs results =
-    weaken
-    (λ f. record {
-      fits = f .0;
-      inputs-have = all-are (size g) inputs (f .1 .0);
-      results-have = all-are (size g) results (f .1 .1);
-    })
-    (both (size-gate g) (both (one (allHave (size g) inputs) 7 0 (omega arith)) (one (allHave (size g) results) 8 0 (omega arith))))
+    weaken (λ f. record { fits = f .0; inputs-have = f .1 .0; results-have = f .1 .1 })
+    (both (size-gate g) (lengths-gate g inputs results))
+
+-- the same with 17 after 6
+pub sides-gate : (g : Grid) → Gate (askSides g) (leb (g .sides) 15 ≡ true)
+unfolding askSides
+sides-gate g = one (leb (g .sides) 15) 17 0 (omega arith)
+
+pub outlets-gate : (g : Grid) (inputs results : List ℕ) → Gate (askOutlets g inputs results) (Sheets g inputs results)
+unfolding askOutlets
+outlets-gate g inputs results =
+    weaken (λ f. record { fits = f .0; inputs-have = f .1 .1 .0; results-have = f .1 .1 .1 })
+    (both (size-gate g) (both (sides-gate g) (lengths-gate g inputs results)))
 
 -- 8 is asked after 5 to 7, which are 5 to 8 without results
 pub results-asked : (g : Grid) (inputs results : List ℕ) (later : Answer) →
     askSheets g inputs [] (ask (allHave (size g) results) (refusal 8 0) later) ≡ askSheets g inputs results later
-unfolding askSheets allHave
+unfolding askSheets askLengths allHave
 results-asked g inputs results later = refl
+
+-- 7 is asked after 5 and 6, and 17 between them
+pub inputs-asked : (g : Grid) (inputs : List ℕ) (later : Answer) →
+    askSize g (ask (allHave (size g) inputs) (refusal 7 0) later) ≡ askSheets g inputs [] later
+unfolding askSheets askLengths allHave
+inputs-asked g inputs later = refl
+
+pub sides-asked : (g : Grid) (inputs results : List ℕ) (later : Answer) →
+    askSize g (ask (leb (g .sides) 15) (refusal 17 0) (askLengths g inputs results later)) ≡ askOutlets g inputs results later
+unfolding askOutlets askSides
+sides-asked g inputs results later = refl
+
+pub lengths-asked : (g : Grid) (inputs results : List ℕ) (later : Answer) →
+    askSheets g inputs results later ≡ askSize g (askLengths g inputs results later)
+unfolding askSheets
+lengths-asked g inputs results later = refl
 
 pub work-gate : (g : Grid) (work : ℕ) → Gate (askWork g work) (4 * size g ≤ work)
 unfolding askWork
@@ -97,6 +126,12 @@ pub check-gate : (g : Grid) (inputs results : List ℕ) (work : ℕ) →
 check-gate g inputs results work =
     weaken (λ f. record { fits = f .0 .fits; inputs-have = f .0 .inputs-have; results-have = f .0 .results-have; room = f .1 })
     (both (sheets-gate g inputs results) (work-gate g work))
+
+pub outlets-check-gate : (g : Grid) (inputs results : List ℕ) (work : ℕ) →
+    Gate (λ later. askOutlets g inputs results (askWork g work later)) (Sized g inputs results work)
+outlets-check-gate g inputs results work =
+    weaken (λ f. record { fits = f .0 .fits; inputs-have = f .0 .inputs-have; results-have = f .0 .results-have; room = f .1 })
+    (both (outlets-gate g inputs results) (work-gate g work))
 
 -- ---- the lengths of lists
 
@@ -117,11 +152,16 @@ pub have-again : (n a : ℕ) (l : List ℕ) → allHave n (a ∷ a ∷ l) ≡ al
 unfolding allHave
 have-again n a l = and-idem (eqb a n) (allHave n l)
 
--- askSheets looks at its lists by allHave alone
+-- 7 and 8 look at their lists by allHave alone
+same-lengths : (g : Grid) (i i' r r' : List ℕ) (later : Answer) → allHave (size g) i ≡ allHave (size g) i' →
+    allHave (size g) r ≡ allHave (size g) r' → askLengths g i r later ≡ askLengths g i' r' later
+unfolding askLengths
+same-lengths g i i' r r' later p q = ap₂ (λ (x y : Bool). ask x (refusal 7 0) (ask y (refusal 8 0) later)) p q
+
 pub same-lists : (g : Grid) (i i' r r' : List ℕ) (later : Answer) → allHave (size g) i ≡ allHave (size g) i' →
     allHave (size g) r ≡ allHave (size g) r' → askSheets g i r later ≡ askSheets g i' r' later
 unfolding askSheets
-same-lists g i i' r r' later p q = ap₂ (λ (x y : Bool). askSize g (ask x (refusal 7 0) (ask y (refusal 8 0) later))) p q
+same-lists g i i' r r' later p q = ap (askSize g) (same-lengths g i i' r r' later p q)
 
 -- one result sheet, named four times
 results-again : (n r : ℕ) → allHave n (r ∷ r ∷ r ∷ r ∷ []) ≡ allHave n (r ∷ [])
@@ -141,3 +181,11 @@ pub four-results : (g : Grid) (a b c d e : ℕ) (later : Answer) →
     askSheets g (a ∷ a ∷ []) (b ∷ c ∷ d ∷ e ∷ []) later ≡ askSheets g (a ∷ []) (b ∷ c ∷ d ∷ e ∷ []) later
 four-results g a b c d e later =
     same-lists g (a ∷ a ∷ []) (a ∷ []) (b ∷ c ∷ d ∷ e ∷ []) (b ∷ c ∷ d ∷ e ∷ []) later (have-again (size g) a []) refl
+
+-- what `outlets` answers for one result sheet
+pub one-outlet-result : (g : Grid) (a r : ℕ) (later : Answer) →
+    askOutlets g (a ∷ []) (r ∷ r ∷ r ∷ r ∷ []) later ≡ askOutlets g (a ∷ []) (r ∷ []) later
+unfolding askOutlets
+one-outlet-result g a r later =
+    ap (λ (x : Answer). askSize g (askSides g x))
+    (same-lengths g (a ∷ []) (a ∷ []) (r ∷ r ∷ r ∷ r ∷ []) (r ∷ []) later refl (results-again (size g) r))

@@ -18,7 +18,7 @@ use Rattle.grid_laws.proofs.Tests.{cond-true, cond-false}
 use Rattle.checks.specs.Sizes.{Fits}
 use Rattle.checks.proofs.Gate.{Gate, kept, passed, answered-no, answered-yes, is-accepted}
 use Rattle.checks.proofs.Asked.{Sized, check-gate, one-input}
-use Rattle.checks.proofs.Questions.{bad-≤, endless-≤, codes-bad, codes-endless, codes-yes}
+use Rattle.checks.proofs.Questions.{bad-≤, endless-≤, codes-bad, codes-endless, codes-yes, yes-is-late, number-late}
 
 -- what both calls promise
 pub record FromCodes (g : Grid) (codes made k₀ k₁ w₀ w₁ : List ℕ) (r : Answer) : Type 0 where
@@ -50,7 +50,7 @@ module _ (g : Grid) (codes k₀ w₀ : List ℕ) (r : Answer)
       record {
         answer = answered-no before-11 answered n (askCodes g codes accepted);
         result = kept n made;
-        work = record { same-length = refl; untouched = λ l h. refl };
+        work = record { same-length = refl; untouched = λ _. refl };
       }
 
   module _ (yes : r .number ≡ 0) where
@@ -75,7 +75,7 @@ module _ (g : Grid) (codes k₀ w₀ : List ℕ) (r : Answer)
         record {
           answer = ap (refusal 11) e ∙ sym (codes-bad g codes accepted (omega arith)) ∙ check-is;
           result = refl;
-          work = record { same-length = refl; untouched = λ l h. refl };
+          work = record { same-length = refl; untouched = λ _. refl };
         }
 
     pub none-bad : (bad : ℕ) → bad ≡ firstBadCode g codes → length codes ≤ bad → firstBadCode g codes ≡ size g
@@ -89,7 +89,7 @@ module _ (g : Grid) (codes k₀ w₀ : List ℕ) (r : Answer)
           record {
             answer = ap (refusal 12) is ∙ sym (codes-endless g codes accepted good (omega arith)) ∙ check-is;
             result = stands ∙ cond-false made k₀ (ne-eqb first (size g) (λ q. let z : ⊥ = omega arith in absurd z));
-            work = record { same-length = same; untouched = λ l h. let z : ⊥ = omega arith in absurd z };
+            work = record { same-length = same; untouched = λ t. absurd (number-late (omega arith) (λ q. omega arith) t) };
           }
 
       pub made-promise : length codes ≤ first → FromCodes g codes made k₀ k₁ w₀ w₁ r
@@ -100,5 +100,5 @@ module _ (g : Grid) (codes k₀ w₀ : List ℕ) (r : Answer)
           record {
             answer = is-accepted before-11 answered yes ∙ sym (codes-yes g codes accepted good (sym is ∙ q)) ∙ check-is;
             result = stands ∙ cond-true made k₀ (eq-eqb first (size g) q) ∙ sym (cond-true made k₀ (eq-eqb (r .number) 0 yes));
-            work = record { same-length = same; untouched = λ l h. let z : ⊥ = omega arith in absurd z };
+            work = record { same-length = same; untouched = λ t. absurd (yes-is-late yes t) };
           }

@@ -1,17 +1,21 @@
 -- "11. Is each code 0 or one of the eight?" "12. Does every route end?": the answer by the first cell for which it is no.
-use mathlib.Core.Path.{_≡_, _∙_}
-use mathlib.Core.Bool.{Bool, true, false}
+use mathlib.Core.Path.{_≡_, refl, _∙_}
+use mathlib.Core.Bool.{Bool, true, false, _||_}
+use mathlib.Core.Logic.{⊎-elim}
 use mathlib.Core.List.{List}
 use Prim.Native.Nat.{ℕ, _≤_, _<_}
 use native.Mathlib.Omega.{arith}
-use lib.Dec.{eqb}
-use borrow.Author.Tests.{eq-eqb, ne-eqb}
+use lib.Dec.{T, eqb, leb}
+use lib.IntN.{ℤ}
+use borrow.Author.Tests.{eq-eqb, ne-eqb, eqb-true, leb-true}
 use Rattle.grid.specs.declared.Grid.{Grid}
 use Rattle.grid.specs.declared.Answer.{Answer}
 use Rattle.grid.specs.Sheet.{size}
+use Rattle.grid.specs.Outlet.{firstStranded}
 use Rattle.grid.specs.Routes.{firstBadCode, firstEndless}
-use Rattle.grid.specs.Checks.{refusal, accepted, ask, askCell, askCodes}
-use Rattle.grid_laws.proofs.Tests.{cond-true, cond-false}
+use Rattle.grid.specs.Checks.{refusal, accepted, ask, askCell, askReach, askCodes}
+use Rattle.grid.specs.Promises.{upToNine}
+use Rattle.grid_laws.proofs.Tests.{T-true, cond-true, cond-false, and-left, and-right, or-cases}
 use Rattle.grid_laws.proofs.Below.{first-≤}
 
 pub bad-≤ : (g : Grid) (codes : List ℕ) → firstBadCode g codes ≤ size g
@@ -47,20 +51,62 @@ module _ (g : Grid) (codes : List ℕ) (later : Answer) where
 -- ---- these are asked when the work buffer may be written: a no is above 9
 
 abbrev pub Late : Answer → Type 0
-Late a = 0 < a .number → a .number ≤ 9 → ⊥
+Late a = T (upToNine (a .number)) → ⊥
+
+-- a yes, and a number above 9 but 17
+pub yes-is-late : {number : ℕ} → number ≡ 0 → T (upToNine number) → ⊥
+unfolding upToNine
+yes-is-late {number} e t =
+    let l = leb-true 1 number (and-left (leb 1 number) (leb number 9 || eqb number 17) (T-true (upToNine number) t)) in
+    omega arith
+
+pub number-late : {number : ℕ} → 9 < number → (number ≡ 17 → ⊥) → T (upToNine number) → ⊥
+unfolding upToNine
+number-late {number} h f t =
+    ⊎-elim (λ q. let l = leb-true number 9 q in let z : ⊥ = omega arith in z) (λ q. f (eqb-true number 17 q))
+    (or-cases (leb number 9) (eqb number 17)
+    (and-right (leb 1 number) (leb number 9 || eqb number 17) (T-true (upToNine number) t)))
 
 pub yes-late : Late accepted
-yes-late l h = omega arith
+yes-late = yes-is-late refl
 
-pub cell-late : (number first : ℕ) (g : Grid) (later : Answer) → 9 < number → Late later → Late (askCell number g first later)
-cell-late number first g later n L = go (eqb first (size g))
+pub cell-late : (number first : ℕ) (g : Grid) (later : Answer) → 9 < number → (number ≡ 17 → ⊥) → Late later →
+    Late (askCell number g first later)
+cell-late number first g later n f L = go (eqb first (size g))
   where
     go : (holds : Bool) → Late (ask holds (refusal number first) later)
     go true = L
-    go false = λ l h. omega arith
+    go false = number-late n f
 
 pub codes-late : (g : Grid) (codes : List ℕ) (later : Answer) → Late later → Late (askCodes g codes later)
 unfolding askCodes
 codes-late g codes later L =
-    cell-late 11 (firstBadCode g codes) g (askCell 12 g (firstEndless g codes) later) (omega arith)
-    (cell-late 12 (firstEndless g codes) g later (omega arith) L)
+    cell-late 11 (firstBadCode g codes) g (askCell 12 g (firstEndless g codes) later) (omega arith) (λ q. omega arith)
+    (cell-late 12 (firstEndless g codes) g later (omega arith) (λ q. omega arith) L)
+
+-- "18 if some data cell has no chain to an outlet"
+pub stranded-≤ : (g : Grid) (e : List ℤ) → firstStranded g e ≤ size g
+unfolding firstStranded
+stranded-≤ g e = first-≤ (size g) _
+
+module _ (g : Grid) (e : List ℤ) (later : Answer) where
+  pub reach-no : firstStranded g e < size g → askReach g e later ≡ refusal 18 (firstStranded g e)
+  unfolding askReach
+  reach-no h = cell-no 18 (firstStranded g e) g later h
+
+  pub reach-yes : firstStranded g e ≡ size g → askReach g e later ≡ later
+  unfolding askReach
+  reach-yes q = cell-yes 18 (firstStranded g e) g later q
+
+  pub reach-late : Late later → Late (askReach g e later)
+  unfolding askReach
+  reach-late L = cell-late 18 (firstStranded g e) g later (omega arith) (λ q. omega arith) L
+
+  -- a no that is asked later makes one of it
+  pub reach-above : (later .number ≡ 0 → ⊥) → (askReach g e later) .number ≡ 0 → ⊥
+  unfolding askReach
+  reach-above f = go (eqb (firstStranded g e) (size g))
+    where
+      go : (holds : Bool) → (ask holds (refusal 18 (firstStranded g e)) later) .number ≡ 0 → ⊥
+      go true = f
+      go false = λ q. omega arith

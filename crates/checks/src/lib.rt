@@ -1,6 +1,6 @@
-// The questions that every call with sheets asks first, 5 to 9 of "Questions at the gate", answered on the lengths of its lists by three
-// functions, each one question longer than the one before. `proofs/Gate.antt` carries an answer to each call's own definition in `grid`:
-// what is asked after it, and what a yes says.
+// The questions that every call with sheets asks first, 5 to 9 of "Questions at the gate", answered on the lengths of its lists by a few
+// functions, each one question longer than the one before; and the same with 17 after 6, for calls that work out outlets.
+// `proofs/Gate.antt` carries an answer to each call's own definition in `grid`: what is asked after it, and what a yes says.
 use grid::Answer;
 use grid::Grid;
 ghost use mathlib.Core.Path.{_≡_};
@@ -8,7 +8,7 @@ ghost use mathlib.Core.List.{[], _∷_};
 ghost use Prim.Native.Nat.{_*_, _<_, _^_};
 ghost use lib.Dec.{leb};
 ghost use Rattle.grid.specs.Sheet.{size};
-ghost use Rattle.grid.specs.Checks.{accepted, inRange, allHave, askSheets, askWork};
+ghost use Rattle.grid.specs.Checks.{accepted, inRange, allHave, askSize, askSheets, askOutlets, askWork};
 
 // "from 1 to 4,000", in questions 5 and 6, which the reader asks too.
 pub fn in_range(k: usize) -> bool
@@ -51,9 +51,9 @@ pub fn has_room(g: Grid, work: usize) -> bool
     4 * (g.rows * g.cols) <= work
 }
 
-// 5 to 7, for two input sheets. A call with one names it again.
-pub fn inputs(g: Grid, first: usize, second: usize) -> Answer
-    ensures { λ r. ⌜ r ≡ askSheets g (first ∷ second ∷ []) [] accepted ⌝ }
+// 5 and 6.
+fn rows_and_cols(g: Grid) -> Answer
+    ensures { λ r. ⌜ r ≡ askSize g accepted ⌝ }
 {
     if !in_range(g.rows) {
         return Answer {
@@ -67,16 +67,27 @@ pub fn inputs(g: Grid, first: usize, second: usize) -> Answer
             place: 0,
         };
     }
+    Answer {
+        number: 0,
+        place: 0,
+    }
+}
+
+// 5 to 7, for two input sheets. A call with one names it again.
+pub fn inputs(g: Grid, first: usize, second: usize) -> Answer
+    ensures { λ r. ⌜ r ≡ askSheets g (first ∷ second ∷ []) [] accepted ⌝ }
+{
+    let answer = rows_and_cols(g);
+    if answer.number != 0 {
+        return answer;
+    }
     if !both_have(g.rows * g.cols, first, second) {
         return Answer {
             number: 7,
             place: 0,
         };
     }
-    Answer {
-        number: 0,
-        place: 0,
-    }
+    answer
 }
 
 // 5 to 8, for two input sheets and four result sheets. A call with fewer names one of them again.
@@ -118,6 +129,48 @@ pub fn check(
     ensures { λ r. ⌜ r ≡ askSheets g (first ∷ second ∷ []) (a ∷ b ∷ c ∷ d ∷ []) (askWork g work accepted) ⌝ }
 {
     let answer = sheets(g, first, second, a, b, c, d);
+    if answer.number != 0 {
+        return answer;
+    }
+    if !has_room(g, work) {
+        return Answer {
+            number: 9,
+            place: 0,
+        };
+    }
+    answer
+}
+
+// 5, 6, 17, 7 and 8, for elevations and four result sheets, of calls that work out outlets.
+pub fn outlets(g: Grid, given: usize, a: usize, b: usize, c: usize, d: usize) -> Answer
+    ensures { λ r. ⌜ r ≡ askOutlets g (given ∷ []) (a ∷ b ∷ c ∷ d ∷ []) accepted ⌝ }
+{
+    let answer = rows_and_cols(g);
+    if answer.number != 0 {
+        return answer;
+    }
+    if g.sides > 15 {
+        return Answer {
+            number: 17,
+            place: 0,
+        };
+    }
+    sheets(g, given, given, a, b, c, d)
+}
+
+// The same, and 9.
+pub fn check_outlets(
+    g: Grid,
+    given: usize,
+    a: usize,
+    b: usize,
+    c: usize,
+    d: usize,
+    work: usize,
+) -> Answer
+    ensures { λ r. ⌜ r ≡ askOutlets g (given ∷ []) (a ∷ b ∷ c ∷ d ∷ []) (askWork g work accepted) ⌝ }
+{
+    let answer = outlets(g, given, a, b, c, d);
     if answer.number != 0 {
         return answer;
     }

@@ -1,7 +1,7 @@
 // The call `culvert` of document 02, "open a culvert under a road bank": elevations, a cell and a level to the four results of "the sheet
-// with that cell at that level". Questions 5 to 9 come first, then the culvert's own, 15 and 16. The elevations are loaded as keys into
-// the work buffer and opened there, and what is loaded is drained as in the one call: demand 3 holds with the opened sheet as the input.
-// The level goes by its key from the start, as elevations do.
+// with that cell at that level". Questions 5 to 9 come first, 17 among them, then the culvert's own, 15 and 16. The elevations are loaded
+// as keys into the work buffer and opened there, and what is loaded is drained as in the one call, which asks 18: demand 3 holds with the
+// opened sheet as the input. The level goes by its key from the start, as elevations do.
 use grid::Answer;
 use grid::Grid;
 ghost use mathlib.Core.Path.{_≡_};
@@ -9,12 +9,13 @@ ghost use Prim.Native.Nat.{_<_};
 ghost use lib.ListN.{length};
 ghost use Rattle.grid.specs.Sheet.{size};
 ghost use Rattle.grid.specs.Culvert.{opened};
-ghost use Rattle.grid.specs.Checks.{culvertCheck};
-ghost use Rattle.grid.specs.Promises.{CulvertPromise};
+ghost use Rattle.grid.specs.Checks.{accepted, askReach};
+ghost use Rattle.grid.specs.Promises.{FourResults, CulvertPromise};
 ghost use Rattle.cells.specs.Keys.{levelOf};
-ghost use Rattle.drainage.specs.Results.{Measured, Results};
+ghost use Rattle.drainage.specs.Results.{Measured};
+ghost use Rattle.culvert.specs.Asked.{askedTo16};
 
-// The questions, for the elevations and the lengths of the other buffers.
+// The questions up to 16, for the elevations and the lengths of the other buffers.
 fn ask(
     g: Grid,
     elevations: &[i16],
@@ -26,17 +27,17 @@ fn ask(
     labels: usize,
     work: usize,
 ) -> Answer
-    ensures { λ r. ⌜ r ≡ culvertCheck g (now (elevations .entry)) cell (levelOf key) filled codes counts labels work ⌝ }
+    ensures { λ r. ⌜ r ≡ askedTo16 g (now (elevations .entry)) cell (levelOf key) filled codes counts labels work accepted ⌝ }
 {
     let given = elevations.len();
-    let sized = checks::check(g, given, given, filled, codes, counts, labels, work);
+    let sized = checks::check_outlets(g, given, filled, codes, counts, labels, work);
     if sized.number != 0 {
         return sized;
     }
     culvert_cell::check(elevations, cell, key)
 }
 
-// The four results of the opened sheet, on buffers of the right lengths.
+// Question 18 of the opened sheet, and after a yes its four results, on buffers of the right lengths.
 fn drain_opened(
     g: Grid,
     elevations: &[i16],
@@ -47,17 +48,18 @@ fn drain_opened(
     counts: &mut [u32],
     labels: &mut [u32],
     work: &mut [u32],
-)
+) -> Answer
     requires { ⌜ Measured g (length (now filled)) (length (now codes)) (length (now counts)) (length (now labels)) (length (now work)) ⌝ }
     requires { ⌜ length (now elevations) ≡ size g ⌝ }
     requires { ⌜ cell < size g ⌝ }
     requires { ⌜ key < 65536 ⌝ }
-    ensures { λ _. ⌜ Results g (opened (now (elevations .entry)) cell (levelOf key)) (now (filled .exit)) (now (codes .exit))
-        (now (counts .exit)) (now (labels .exit)) ⌝ }
+    ensures { λ r. ⌜ r ≡ askReach g (opened (now (elevations .entry)) cell (levelOf key)) accepted ⌝ }
+    ensures { λ r. ⌜ FourResults g (opened (now (elevations .entry)) cell (levelOf key)) (now (filled .entry)) (now (filled .exit))
+        (now (codes .entry)) (now (codes .exit)) (now (counts .entry)) (now (counts .exit)) (now (labels .entry)) (now (labels .exit)) r ⌝ }
 {
     fill::load(elevations, work);
     culvert_cell::open_cell(work, cell, key);
-    drainage::drain_loaded(g, filled, codes, counts, labels, work);
+    drainage::drain_loaded(g, filled, codes, counts, labels, work)
 }
 
 // The four results of the sheet with the cell at the level.
@@ -101,6 +103,5 @@ pub fn culvert(
         counts,
         labels,
         work,
-    );
-    answer
+    )
 }

@@ -1,10 +1,38 @@
-// The call `directions` of document 01: the code of every cell, from any sheet. The questions 5 to 9 come first, then the levels; a data
-// cell without one is question 10's no, with its place, and leaves the codes as they were.
+// The call `directions` of document 01: the code of every cell, from any sheet. The questions 5 to 9 come first, 17 among them, then the
+// levels. Where every data cell has one, the codes lead each to an outlet, so that 18 needs no look of its own. A data cell without one is
+// the no of 18, if some data cell has no chain to an outlet, or else question 10's; both leave the codes as they were.
 use grid::Answer;
 use grid::Grid;
+ghost use mathlib.Core.Path.{_≡_};
+ghost use Prim.Native.Nat.{_*_, _<_, _≤_, _^_};
+ghost use lib.ListN.{length};
+ghost use Rattle.grid.specs.Sheet.{size};
+ghost use Rattle.grid.specs.Checks.{refusal, askReach};
 ghost use Rattle.grid.specs.Promises.{DirectionsPromise};
 
-// Questions 5 to 10, and after a yes the codes.
+// The no of a sheet whose data cell `first` has no level: 18 is asked before 10.
+fn lacking(g: Grid, elevations: &[i16], first: usize, work: &mut [u32]) -> Answer
+    requires { ⌜ size g < 2 ^ 24 ⌝ }
+    requires { ⌜ g .cols < 2 ^ 24 ⌝ }
+    requires { ⌜ length (now elevations) ≡ size g ⌝ }
+    requires { ⌜ 4 * size g ≤ length (now work) ⌝ }
+    requires { ⌜ first < size g ⌝ }
+    ensures { λ r. ⌜ r ≡ askReach g (now (elevations .entry)) (refusal 10 first) ⌝ }
+{
+    let stranded = fill::first_stranded(g, elevations, work);
+    if stranded < elevations.len() {
+        return Answer {
+            number: 18,
+            place: stranded as u32,
+        };
+    }
+    Answer {
+        number: 10,
+        place: first as u32,
+    }
+}
+
+// Questions 5 to 10, with 17 and 18, and after a yes the codes.
 pub fn directions(g: Grid, elevations: &[i16], codes: &mut [u8], work: &mut [u32]) -> Answer
     ensures { λ r. ⌜ DirectionsPromise g (now (elevations .entry)) (now (codes .entry)) (now (codes .exit)) (now (work .entry))
         (now (work .exit)) r ⌝ }
@@ -12,16 +40,13 @@ pub fn directions(g: Grid, elevations: &[i16], codes: &mut [u8], work: &mut [u32
     let given = elevations.len();
     let wanted = codes.len();
     let room = work.len();
-    let answer = checks::check(g, given, given, wanted, wanted, wanted, wanted, room);
+    let answer = checks::check_outlets(g, given, wanted, wanted, wanted, wanted, room);
     if answer.number != 0 {
         return answer;
     }
     let first = flow::directions_into(g, elevations, codes, work);
     if first < given {
-        return Answer {
-            number: 10,
-            place: first as u32,
-        };
+        return lacking(g, elevations, first, work);
     }
     answer
 }

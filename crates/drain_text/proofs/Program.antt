@@ -14,11 +14,13 @@ use borrow.Author.Tests.{le-leb, eq-eqb, ne-eqb, leb-true}
 use Rattle.grid.specs.declared.Grid.{Grid}
 use Rattle.grid.specs.declared.Answer.{Answer}
 use Rattle.grid.specs.declared.Dimensions.{Dimensions}
-use Rattle.grid.specs.Sheet.{gridOf, size}
-use Rattle.grid.specs.Checks.{refusal, accepted, ask, inRange, askSize, allHave, askSheets, askWork, drainCheck}
+use Rattle.grid.specs.Sheet.{gridOf, closedGrid, size}
+use Rattle.grid.specs.Outlet.{firstStranded}
+use Rattle.grid.specs.Checks.{refusal, accepted, ask, inRange, askSize, allHave, askLengths, askSides, askOutlets, askWork, askReach, drainCheck}
 use Rattle.grid.specs.Frames.{textGrid, isShaped, firstBadByte, readCheck, textSheet, resultText, refusalText, drainText, programText}
 use Rattle.grid.specs.Promises.{ReadPromise, DrainPromise}
 use Rattle.grid_laws.proofs.Below.{length-table}
+use Rattle.fill_laws.proofs.Left.{open-reach}
 use Rattle.frames.specs.Printed.{Printed, Sheets, resultLength}
 use Rattle.drain_text.specs.Room.{Small, Lent}
 
@@ -46,6 +48,14 @@ read-passed text room h =
     let six = ask-yes (inRange ((textGrid text) .cols)) 5 0 _ (five .1) in
     record { few = leb-true (size (textGrid text)) 2304 (four .0); rows-in-range = five .0; cols-in-range = six .0 }
 
+-- a text has no closed sides
+text-open : (text : List ℕ) → (textGrid text) .sides ≡ 0
+unfolding textGrid
+text-open text = refl
+
+open-grid : (g : Grid) → g .sides ≡ 0 → gridOf (g .rows) (g .cols) ≡ g
+open-grid g z = ap (closedGrid (g .rows) (g .cols)) (sym z)
+
 length-sheet : (text : List ℕ) → length (textSheet text) ≡ size (textGrid text)
 unfolding textSheet
 length-sheet text = length-table (size (textGrid text)) _
@@ -62,7 +72,7 @@ module _ (text : List ℕ) (e₀ e₁ : List ℤ) (r : Dimensions) (long : lengt
 
   module _ (yes : r .number ≡ 0) where
     grid-is : gridOf (r .rows) (r .cols) ≡ textGrid text
-    grid-is = rw (p .rows, p .cols, eq-eqb (r .number) 0 yes)
+    grid-is = rw (p .rows, p .cols, eq-eqb (r .number) 0 yes) (open-grid (textGrid text) (text-open text))
 
     pub read-rows-cols : Passed (gridOf (r .rows) (r .cols))
     read-rows-cols = rw grid-is (read-passed text 2304 (ap (λ (a : Answer). a .number) (sym answer-is) ∙ yes))
@@ -100,12 +110,14 @@ module _ (g : Grid) (e filled₀ filled₁ : List ℤ) (codes₀ codes₁ counts
     (p : DrainPromise g e filled₀ filled₁ codes₀ codes₁ counts₀ counts₁ labels₀ labels₁ work₀ work₁ r) where
   -- the one call accepts
   accepts : r ≡ accepted
-  unfolding drainCheck askSheets askSize askWork allHave
+  unfolding drainCheck askOutlets askSides askLengths askSize askWork askReach allHave
   accepts =
       p .answer
       ∙ rw (
         small .rows-in-range,
         small .cols-in-range,
+        le-leb (g .sides) 15 (let z = small .no-sides in omega arith),
+        eq-eqb (firstStranded g e) (size g) (open-reach g (small .no-sides) e (small .elevations-size)),
         eq-eqb (length e) (size g) (small .elevations-size),
         eq-eqb (length filled₀) (size g) (lent .filled-size),
         eq-eqb (length codes₀) (size g) (lent .codes-size),

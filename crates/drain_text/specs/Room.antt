@@ -9,11 +9,12 @@ use Rattle.grid.specs.declared.Grid.{Grid}
 use Rattle.grid.specs.Sheet.{size}
 use Rattle.grid.specs.Checks.{inRange}
 
--- a sheet that passes questions 4, 5 and 6, and room for its results as text
+-- a sheet with every side open that passes questions 4, 5 and 6, and room for its results as text
 pub record Small (g : Grid) (elevations : List ℤ) (out : List ℕ) : Type 0 where
   pub few : size g ≤ 2304
   pub rows-in-range : inRange (g .rows) ≡ true
   pub cols-in-range : inRange (g .cols) ≡ true
+  pub no-sides : g .sides ≡ 0
   pub elevations-size : length elevations ≡ size g
   pub room : 59913 ≤ length out
 

@@ -65,5 +65,13 @@ pub fn run(text: &[u8], out: &mut [u8]) -> usize
     let rows = read.rows as usize;
     let cols = read.cols as usize;
     let n = rows * cols;
-    drain_sheet(Grid { rows, cols }, &elevations[..n], out)
+    drain_sheet(
+        Grid {
+            rows,
+            cols,
+            sides: 0,
+        },
+        &elevations[..n],
+        out,
+    )
 }

@@ -1,4 +1,4 @@
--- From step to step, for an input sheet e: the filled sheet has every level, so its directions are written; their codes are all of the
+-- From step to step, for an input sheet e of which no data cell is stranded: the filled sheet has every level, so its directions are written; their codes are all of the
 -- eight or 0, and their routes end.
 use mathlib.Core.Path.{_≡_, sym, _∙_, ap, subst}
 use mathlib.Core.Bool.{cond}
@@ -11,48 +11,48 @@ use lib.IntN.{ℤ}
 use borrow.Author.Tests.{eq-eqb}
 use Rattle.grid.specs.declared.Grid.{Grid}
 use Rattle.grid.specs.Sheet.{size}
+use Rattle.grid.specs.Outlet.{firstStranded}
 use Rattle.grid.specs.Fill.{filled}
 use Rattle.grid.specs.Directions.{directions, firstUnlevelled}
-use Rattle.grid.specs.Routes.{counts, labels, firstEndless}
+use Rattle.grid.specs.Routes.{firstEndless}
 use Rattle.grid_laws.proofs.Tests.{cond-true}
 use Rattle.grid_laws.proofs.Cells.{InRange}
 use Rattle.route_laws.specs.Receivers.{AllCodes}
+use Rattle.checks.proofs.Questions.{stranded-≤}
 use Rattle.guarantee_laws.proofs.OneCall.{all-levelled, codes-length, all-codes, all-end}
-use Rattle.drainage.specs.Results.{Measured, Routable, Results}
+use Rattle.drainage.specs.Results.{Measured, Routable}
 
 -- the second half of a work buffer has room for two numbers a cell
 half-room : (n : ℕ) (t : List ℕ) → 4 * n ≤ length t → n + n ≤ length (take (length t - length t / 2) (drop (length t / 2) t))
 half-room n t h = simp (length-take, length-drop) (omega arith)
 
-module _ (g : Grid) (e f₁ : List ℤ) (k₀ k₁ : List ℕ) (f k a l w r : ℕ) (M : Measured g f k a l w) (cells : length e ≡ size g)
-    (range : InRange e) (fills : f₁ ≡ filled g e)
+module _ (g : Grid) (e f₀ f₁ : List ℤ) (k₀ k₁ : List ℕ) (f k a l w s r : ℕ) (M : Measured g f k a l w) (cells : length e ≡ size g)
+    (range : InRange e) (stranded : s ≡ firstStranded g e) (none : f ≤ s) (written : f₁ ≡ cond (eqb s (size g)) (filled g e) f₀)
     (first : r ≡ firstUnlevelled g f₁) (flows : k₁ ≡ cond (eqb r (size g)) (directions g f₁) k₀) where
+  all : s ≡ size g
+  all = let most = stranded-≤ g e in let long = M .filled-has in omega arith
+
+  pub reach : firstStranded g e ≡ size g
+  reach = sym stranded ∙ all
+
+  pub fills : f₁ ≡ filled g e
+  fills = written ∙ cond-true (filled g e) f₀ (eq-eqb s (size g) all)
+
   pub codes-right : k₁ ≡ directions g (filled g e)
   codes-right =
       flows
       ∙ cond-true (directions g f₁) k₀
-      (eq-eqb r (size g) (first ∙ ap (firstUnlevelled g) fills ∙ all-levelled g e cells range))
+      (eq-eqb r (size g) (first ∙ ap (firstUnlevelled g) fills ∙ all-levelled g e cells range reach))
       ∙ ap (directions g) fills
 
   pub routable : (t : List ℕ) → length t ≡ w → Routable g k₁ a l (length (take (length t - length t / 2) (drop (length t / 2) t)))
   routable t q =
       record {
         fits = M .fits;
-        long = ap length codes-right ∙ codes-length g e cells range;
-        all-codes = subst AllCodes (sym codes-right) (all-codes g e cells range);
-        all-end = ap (firstEndless g) codes-right ∙ all-end g e cells range;
+        long = ap length codes-right ∙ codes-length g e cells range reach;
+        all-codes = subst AllCodes (sym codes-right) (all-codes g e cells range reach);
+        all-end = ap (firstEndless g) codes-right ∙ all-end g e cells range reach;
         counts-have = M .counts-have;
         labels-have = M .labels-have;
         room = half-room (size g) t (let h = M .room in omega arith);
-      }
-
-  pub results : (a₁ l₁ : List ℕ) → a₁ ≡ counts g k₁ → l₁ ≡ labels g k₁ → Results g e f₁ k₁ a₁ l₁
-  results a₁ l₁ p q =
-      record {
-        cells = cells;
-        range = range;
-        filled = fills;
-        codes = codes-right;
-        counts = p ∙ ap (counts g) codes-right;
-        labels = q ∙ ap (labels g) codes-right;
       }

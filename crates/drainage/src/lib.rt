@@ -1,17 +1,19 @@
-// The one call of document 01: "One call works filled sheet, codes, counts and labels from elevations". The questions 5 to 9 first, then
-// the steps in sequence over the one lent work buffer, each the proved piece of its own crate. Its promise carries demand 3 about the
-// four lists that it leaves: they are those of the definitions, and for these demand 3 is a law (`guarantee_laws`, `proofs/OneCall`).
-// `drain_loaded` is a step of its own: the four results of any sheet that the keys in the work buffer spell, as of an opened one.
+// The one call of document 01: "One call works filled sheet, codes, counts and labels from elevations". The questions 5 to 9 first, 17
+// among them, then the steps in sequence over the one lent work buffer, each the proved piece of its own crate; the fill answers 18 before
+// a result is written. Its promise carries demand 3 about the four lists that it leaves: they are those of the definitions, and for these
+// demand 3 is a law (`guarantee_laws`, `proofs/OneCall`). `drain_loaded` is a step of its own: 18 and the four results of any sheet that
+// the keys in the work buffer spell, as of an opened one.
 use grid::Answer;
 use grid::Grid;
 ghost use mathlib.Core.Path.{_≡_};
 ghost use lib.ListN.{length};
 ghost use Rattle.grid.specs.Sheet.{size};
 ghost use Rattle.grid.specs.Routes.{counts as counts', labels as labels'};
-ghost use Rattle.grid.specs.Promises.{DrainPromise};
+ghost use Rattle.grid.specs.Checks.{accepted, askReach};
+ghost use Rattle.grid.specs.Promises.{FourResults, DrainPromise};
 ghost use Rattle.key_sort.specs.Order.{AreKeys};
 ghost use Rattle.fill.specs.Words.{sheetIn};
-ghost use Rattle.drainage.specs.Results.{Measured, Routable, Results};
+ghost use Rattle.drainage.specs.Results.{Measured, Routable};
 
 // Counts and labels of the codes, from one list of receivers at the front of the lent tail: the counts leave it as it is, the labels take
 // its place.
@@ -26,7 +28,7 @@ fn route_results(g: Grid, codes: &[u8], counts: &mut [u32], labels: &mut [u32], 
     labelling::labels_of(n, tail, labels);
 }
 
-// The four results of the sheet whose keys stand in the work buffer, on buffers of the right lengths.
+// Question 18 of the sheet whose keys stand in the work buffer, and after a yes its four results, on buffers of the right lengths.
 pub fn drain_loaded(
     g: Grid,
     filled: &mut [i16],
@@ -34,16 +36,27 @@ pub fn drain_loaded(
     counts: &mut [u32],
     labels: &mut [u32],
     work: &mut [u32],
-)
+) -> Answer
     requires { ⌜ Measured g (length (now filled)) (length (now codes)) (length (now counts)) (length (now labels)) (length (now work)) ⌝ }
     requires { ⌜ AreKeys (size g) (now work) ⌝ }
-    ensures { λ _. ⌜ Results g (sheetIn (size g) (now (work .entry))) (now (filled .exit)) (now (codes .exit)) (now (counts .exit))
-        (now (labels .exit)) ⌝ }
+    ensures { λ r. ⌜ r ≡ askReach g (sheetIn (size g) (now (work .entry))) accepted ⌝ }
+    ensures { λ r. ⌜ FourResults g (sheetIn (size g) (now (work .entry))) (now (filled .entry)) (now (filled .exit)) (now (codes .entry))
+        (now (codes .exit)) (now (counts .entry)) (now (counts .exit)) (now (labels .entry)) (now (labels .exit)) r ⌝ }
 {
-    fill::fill_loaded(g, filled, work);
+    let first = fill::fill_loaded(g, filled, work);
+    if first < filled.len() {
+        return Answer {
+            number: 18,
+            place: first as u32,
+        };
+    }
     flow::directions_into(g, filled, codes, work);
     let half = work.len() / 2;
     route_results(g, codes, counts, labels, &mut work[half..]);
+    Answer {
+        number: 0,
+        place: 0,
+    }
 }
 
 // "One call works filled sheet, codes, counts and labels from elevations."
@@ -60,9 +73,8 @@ pub fn drain(
         (now (codes .exit)) (now (counts .entry)) (now (counts .exit)) (now (labels .entry)) (now (labels .exit)) (now (work .entry))
         (now (work .exit)) r ⌝ }
 {
-    let answer = checks::check(
+    let answer = checks::check_outlets(
         g,
-        elevations.len(),
         elevations.len(),
         filled.len(),
         codes.len(),
@@ -74,6 +86,5 @@ pub fn drain(
         return answer;
     }
     fill::load(elevations, work);
-    drain_loaded(g, filled, codes, counts, labels, work);
-    answer
+    drain_loaded(g, filled, codes, counts, labels, work)
 }

@@ -1,33 +1,37 @@
 -- What the flood leaves is the filled sheet: the data cells, neighbours and outlets that it sees by keys are those of the elevations, so
 -- its state at the end is the certificate of fill_laws.
-use mathlib.Core.Path.{_≡_, sym, _∙_, ap, subst}
-use mathlib.Core.Bool.{true, false}
+use mathlib.Core.Path.{_≡_, sym, _∙_, ap, ap₂, subst}
+use mathlib.Core.Bool.{true, false, not, _&&_}
 use mathlib.Core.Logic.{_⊎_, inl, inr, ⊎-elim}
 use mathlib.Core.List.{List}
-use Prim.Native.Nat.{ℕ, _+_, _≤_, _<_}
+use Prim.Native.Nat.{ℕ, zero, suc, _+_, _≤_, _<_}
 use native.Mathlib.Omega.{arith}
-use native.Mathlib.Decide.{decLt}
+use native.Mathlib.Decide.{ℕ-discrete, decLt}
+use lib.Dec.{eqb, ltb}
 use lib.ListN.{length, getD}
 use lib.IntN.{ℤ}
 use lib.Signed.{_≤ℤ_}
-use borrow.Author.Tests.{lt-ltb, ltb-true}
+use borrow.Author.Tests.{lt-ltb, ltb-true, eq-eqb, ne-eqb}
 use Rattle.grid.specs.declared.Grid.{Grid}
 use Rattle.grid.specs.Sheet.{size, higher, at, isData, DataCell, neighbour}
-use Rattle.grid.specs.Outlet.{isOutlet, leavesAt, Outlet}
+use Rattle.grid.specs.Outlet.{isOutlet, leavesAt, Outlet, drained, firstStranded}
 use Rattle.grid.specs.Fill.{filled}
-use Rattle.grid_laws.proofs.Tests.{T-true, true-T, true-false, not-true-false, not-of-false, not-is-true}
+use Rattle.grid_laws.proofs.Tests.{test, T-true, true-T, true-false, not-true-false, not-of-true, not-of-false, not-is-true}
+use Rattle.grid_laws.proofs.Tests.{and-false-left, and-false-right}
 use Rattle.grid_laws.proofs.Order.{≤ℤ-trans, ≤ℤ-of-eq, ≤-higher-left, ≤-higher-right}
-use Rattle.grid_laws.proofs.Cells.{InRange, on-sheet}
-use Rattle.grid_laws.proofs.Outlets.{leaves-no-data, outlet-data, outlet-leaves, leaves-outlet}
+use Rattle.grid_laws.proofs.Cells.{InRange, on-sheet, no-data-void}
+use Rattle.grid_laws.proofs.Neighbours.{neighbour-≤}
+use Rattle.grid_laws.proofs.Outlets.{leaves-off, leaves-on, outlet-data, outlet-leaves, leaves-outlet}
 use Rattle.cells.specs.Keys.{keyOf, levelOf}
-use Rattle.cells.proofs.Keys.{data-key, level-key, level-mono, level-void}
+use Rattle.cells.proofs.Keys.{data-key, zero-no-data, key-void, level-key, level-mono, level-void}
 use Rattle.key_sort.specs.Order.{Ahead}
-use Rattle.flood_laws.specs.Flood.{CellOf, NextTo, OutletOf, Between}
+use Rattle.flood_laws.specs.Flood.{CellOf, NextTo, LeavesOf, OutletOf, Between}
 use Rattle.flood_laws.proofs.Steps.{next-back}
 use Rattle.flood_laws.proofs.Marks.{at-most}
-use Rattle.join_laws.specs.Ways.{Way, stop, step}
+use Rattle.join_laws.specs.Ways.{stop, step}
 use Rattle.fill_laws.specs.Certificate.{DataNeighbours, Certificate}
-use Rattle.fill_laws.proofs.Left.{some-way}
+use Rattle.fill_laws.proofs.Paths.{WayOut}
+use Rattle.fill_laws.proofs.Reach.{drained-way, way-drained, some-way}
 use Rattle.fill_laws.proofs.Certified.{certificate-filled}
 
 module _ (g : Grid) (e : List ℤ) (f : List ℕ) (cells : length e ≡ size g) (range : InRange e)
@@ -48,25 +52,31 @@ module _ (g : Grid) (e : List ℤ) (f : List ℕ) (cells : length e ≡ size g) 
   next-from : (c m : ℕ) → NextTo g f c m → DataNeighbours g e c m
   next-from c m b = (cell-from c (b .0), cell-from m (b .1), b .2)
 
-  out-to : (c : ℕ) → Outlet g e c → OutletOf g f c
-  out-to c o = go (outlet-leaves g e c (T-true (isOutlet g e c) o))
+  leaves-to : (c p : ℕ) → p < 8 → leavesAt g e c p ≡ true → LeavesOf g f c p
+  leaves-to c p h l = go (ℕ-discrete (neighbour g c p) (size g))
     where
-      go : (p : ℕ) × (p < 8) × (leavesAt g e c p ≡ true) → OutletOf g f c
-      go (p, h, l) = (
-        cell-to c (true-T (outlet-data g e c (T-true (isOutlet g e c) o))),
-        (
-          p,
-          h,
-          λ t. true-false (T-true (isData e (neighbour g c p)) (cell-from (neighbour g c p) t))
-              (not-is-true (isData e (neighbour g c p)) (sym (leaves-no-data g e cells c p) ∙ l)),
-        ),
-      )
+      go : Dec (neighbour g c p ≡ size g) → LeavesOf g f c p
+      go (yes q) = inl (q, sym (leaves-off g e c p q) ∙ l)
+      go (no n) =
+          let most = neighbour-≤ g c p h in
+          let on : neighbour g c p < size g = omega arith in
+          let v = not-is-true (isData e (neighbour g c p)) (sym (leaves-on g e c p n) ∙ l) in
+          inr (on, keys (neighbour g c p) on ∙ ap keyOf (no-data-void e (neighbour g c p) v) ∙ key-void)
+
+  leaves-from : (c p : ℕ) → LeavesOf g f c p → leavesAt g e c p ≡ true
+  leaves-from c p (inl (q, o)) = leaves-off g e c p q ∙ o
+  leaves-from c p (inr (on, z)) =
+      leaves-on g e c p (λ q. let y : ⊥ = omega arith in absurd y)
+      ∙ not-of-false (zero-no-data e (neighbour g c p) _ (keys (neighbour g c p) on) (range (neighbour g c p) .0) z)
+
+  out-to : (c : ℕ) → Outlet g e c → OutletOf g f c
+  out-to c o =
+      let t = T-true (isOutlet g e c) o in
+      let w = outlet-leaves g e c t in
+      (cell-to c (true-T (outlet-data g e c t)), (w .0, w .1, leaves-to c (w .0) (w .1) (w .2)))
 
   out-from : (c : ℕ) → OutletOf g f c → Outlet g e c
-  out-from c (t, (p, h, x)) =
-      true-T (leaves-outlet g e c p (T-true (isData e c) (cell-from c t)) h
-      (leaves-no-data g e cells c p
-      ∙ not-of-false (not-true-false (isData e (neighbour g c p)) (λ d. x (cell-to (neighbour g c p) (true-T d))))))
+  out-from c (t, (p, h, x)) = true-T (leaves-outlet g e c p (T-true (isData e c) (cell-from c t)) h (leaves-from c p x))
 
   level-at : (c : ℕ) → CellOf (size g) f c → levelOf (getD f c 0) ≡ at e c
   level-at c t = ap levelOf (keys c (t .0)) ∙ level-key (at e c) (range c .0)
@@ -75,7 +85,7 @@ module _ (g : Grid) (e : List ℤ) (f : List ℕ) (cells : length e ≡ size g) 
     none-ahead : {A : Type 0} (m : ℕ) → Ahead (size g) f (size g) m → A
     none-ahead m (j, h, l, q) = let z : ⊥ = omega arith in absurd z
 
-    -- from the outlets on, each data cell is reached
+    -- from the outlets on, each cell with a way to one is reached
     out-reached : (c : ℕ) → OutletOf g f c → 0 < getD b (size g + c) 0
     out-reached c o = go (decLt 0 (getD b (size g + c) 0))
       where
@@ -83,7 +93,7 @@ module _ (g : Grid) (e : List ℤ) (f : List ℕ) (cells : length e ≡ size g) 
         go (yes h) = h
         go (no n) = none-ahead c (B .flood .outs-later c o (omega arith))
 
-    way-reached : {c : ℕ} → Way (Outlet g e) (DataNeighbours g e) c → 0 < getD b (size g + c) 0
+    way-reached : {c : ℕ} → WayOut g e c → 0 < getD b (size g + c) 0
     way-reached (stop {c = c} o) = out-reached c (out-to c o)
     way-reached (step {c = c} {n = n} x w) = go (B .flood .placed n (nx .1 .0) (way-reached w))
       where
@@ -92,9 +102,6 @@ module _ (g : Grid) (e : List ℤ) (f : List ℕ) (cells : length e ≡ size g) 
 
         go : (i : ℕ) × (i < len) × (getD b i 0 ≡ n) → 0 < getD b (size g + c) 0
         go (i, h, q) = ⊎-elim (λ r. r) (λ a. none-ahead c a) (B .flood .spread i c h (rw q (next-back g f c n nx)))
-
-    reached : (c : ℕ) → DataCell e c → 0 < getD b (size g + c) 0
-    reached c t = way-reached (some-way g e cells c t)
 
     void-unreached : (c : ℕ) → c < size g → isData e c ≡ false → getD b (size g + c) 0 ≡ 0
     void-unreached c h d = go (decLt 0 (getD b (size g + c) 0))
@@ -106,7 +113,49 @@ module _ (g : Grid) (e : List ℤ) (f : List ℕ) (cells : length e ≡ size g) 
             true-false (T-true (isData e c) (cell-from c t)) d
         go (no n) = omega arith
 
-    module _ (G : List ℤ) (written : (c : ℕ) → c < size g → at G c ≡ levelOf (getD b (size g + c) 0)) where
+    -- and what is reached has a way to an outlet, back through the queue
+    place-way : (m i : ℕ) → i < m → i < len → WayOut g e (getD b i 0)
+    place-way zero i h l = let z : ⊥ = omega arith in absurd z
+    place-way (suc m) i h l =
+        ⊎-elim
+        (λ o. stop (out-from (getD b i 0) o))
+        (λ w. let k = w .1 in
+        step (next-from (getD b i 0) (getD b (w .0) 0) (w .2)) (place-way m (w .0) (omega arith) (omega arith)))
+        (B .flood .parents i l)
+
+    reached-way : (c : ℕ) → c < size g → 0 < getD b (size g + c) 0 → WayOut g e c
+    reached-way c h l =
+        let p = B .flood .placed c h l in
+        let k = p .1 in
+        subst (WayOut g e) (p .2) (place-way len (p .0) (p .1) (p .1))
+
+    -- so the stranded cells are the data cells without a level
+    pub stranded-by : (c : ℕ) → c < size g →
+        (isData e c && not (getD (drained g e) c false)) ≡ (ltb 0 (getD f c 0) && eqb (getD b (size g + c) 0) 0)
+    stranded-by c h = go (test (isData e c)) (decLt 0 (getD b (size g + c) 0))
+      where
+        key-data : isData e c ≡ ltb 0 (getD f c 0)
+        key-data = data-key e c (range c .0) ∙ ap (ltb 0) (sym (keys c h))
+
+        go : (isData e c ≡ true) ⊎ (isData e c ≡ false) → Dec (0 < getD b (size g + c) 0) →
+            (isData e c && not (getD (drained g e) c false)) ≡ (ltb 0 (getD f c 0) && eqb (getD b (size g + c) 0) 0)
+        go (inr v) l =
+            and-false-left (not (getD (drained g e) c false)) v
+            ∙ sym (and-false-left (eqb (getD b (size g + c) 0) 0) (sym key-data ∙ v))
+        go (inl d) (yes l) =
+            and-false-right (isData e c) (not-of-true (way-drained g e cells (reached-way c h l)))
+            ∙ sym (and-false-right (ltb 0 (getD f c 0))
+            (ne-eqb (getD b (size g + c) 0) 0 (λ z. let y : ⊥ = omega arith in absurd y)))
+        go (inl d) (no n) =
+            let none : getD (drained g e) c false ≡ false =
+            not-true-false (getD (drained g e) c false) (λ t. n (way-reached (drained-way g e cells c t))) in
+            ap₂ _&&_ key-data (not-of-false none ∙ sym (eq-eqb (getD b (size g + c) 0) 0 (omega arith)))
+
+    module _ (reach : firstStranded g e ≡ size g) (G : List ℤ)
+        (written : (c : ℕ) → c < size g → at G c ≡ levelOf (getD b (size g + c) 0)) where
+      reached : (c : ℕ) → DataCell e c → 0 < getD b (size g + c) 0
+      reached c t = way-reached (some-way g e cells reach c t)
+
       data-level : (c : ℕ) → DataCell e c → at G c ≡ levelOf (getD b (size g + c) 0)
       data-level c t = written c (cell-to c t .0)
 

@@ -1,16 +1,21 @@
 -- What the loops of the fill have done.
-use mathlib.Core.Path.{_≡_, _∙_}
+use mathlib.Core.Path.{_≡_, refl, sym, _∙_, ap}
+use mathlib.Core.Bool.{Bool, false, _&&_}
 use mathlib.Core.Logic.{⊎-elim}
 use mathlib.Core.List.{List}
-use Prim.Native.Nat.{ℕ, _+_, _<_}
+use Prim.Native.Nat.{ℕ, zero, suc, _+_, _<_}
 use native.Mathlib.Omega.{arith}
+use lib.Dec.{ltb}
 use lib.ListN.{length, getD, set}
 use lib.IntN.{ℤ}
 use lib.Signed.{_≤ℤ_}
+use borrow.Author.Tests.{lt-ltb, le-ltb}
 use Rattle.grid.specs.Sheet.{void, top, at}
+use Rattle.grid_laws.proofs.Tests.{and-false-left}
 use Rattle.grid_laws.proofs.Lists.{at-set}
 use Rattle.grid_laws.proofs.Cells.{InRange}
 use Rattle.cells.specs.Keys.{keyOf}
+use Rattle.fill.specs.Words.{isUnreached}
 use Rattle.fill.proofs.Words.{in-range}
 
 -- the first i elevations are loaded
@@ -33,3 +38,22 @@ pub unload-more : (f : ℕ → ℤ) (out : List ℤ) (i : ℕ) (v : ℤ) → i <
     c < i + 1 → at (set out i v) c ≡ f c
 unload-more f out i v h e L c l =
     ⊎-elim (λ q. q .1 ∙ rw (q .0) e) (λ q. q .1 ∙ L c (let n = q .0 in omega arith)) (at-set void out i v h c)
+
+-- ---- a word has a key and no level above it
+pub no-key : (word : ℕ) → word ≡ 0 → false ≡ (ltb 0 word && ltb word 65536)
+no-key word z = sym (and-false-left (ltb word 65536) (le-ltb 0 word (omega arith)))
+
+pub by-level : (word : ℕ) → (word ≡ 0 → ⊥) → ltb word 65536 ≡ (ltb 0 word && ltb word 65536)
+by-level word f = sym (ap (λ (t : Bool). t && ltb word 65536) (lt-ltb 0 word (above word f)))
+  where
+    above : (x : ℕ) → (x ≡ 0 → ⊥) → 0 < x
+    above zero f = absurd (f refl)
+    above (suc x) f = omega arith
+
+-- the first i cells are reached or void
+abbrev pub ReachedTo : List ℕ → ℕ → Type 0
+ReachedTo w i = (c : ℕ) → c < i → isUnreached w c ≡ false
+
+pub unreached-here : (w : List ℕ) (c : ℕ) {r : Bool} → r ≡ (ltb 0 (getD w c 0) && ltb (getD w c 0) 65536) → isUnreached w c ≡ r
+unfolding isUnreached
+unreached-here w c q = sym q

@@ -1,20 +1,25 @@
 // The call `fill` of document 01: elevations to the filled sheet, "what stands after rows × columns passes". Elevations are read once as
 // keys into the work buffer, their cells sorted by key, flooded through that order, and the levels written as elevations. Proved by the
 // certificate of fill_laws: what the flood leaves is an outlet's own elevation, no cell above both its own and a neighbour's level, and
-// the place in the queue bounds the passes that a cell needs. The questions 5 to 9 come first; only the work buffer is written before the
+// the place in the queue bounds the passes that a cell needs. What the flood has not come to has no chain to an outlet: question 18 costs
+// one scan, and none where every side is open. The questions 5 to 9 come first, 17 among them; only the work buffer is written before the
 // last loop. `load`, `fill_words` and `fill_loaded` are steps of their own: other calls fill a sheet that the keys in the work buffer
 // spell.
 use grid::Answer;
 use grid::Grid;
 ghost use mathlib.Core.Path.{_≡_};
+ghost use mathlib.Core.Bool.{cond, _&&_};
 ghost use Prim.Native.Nat.{ℕ, _*_, _/_, _<_, _≤_, _^_};
+ghost use lib.Dec.{eqb, ltb};
 ghost use lib.ListN.{length, getD};
+ghost use Rattle.grid.specs.Below.{firstBelow};
 ghost use Rattle.grid.specs.Sheet.{size, at};
+ghost use Rattle.grid.specs.Outlet.{firstStranded};
 ghost use Rattle.grid.specs.Fill.{filled as filled'};
 ghost use Rattle.grid.specs.Promises.{FillPromise};
 ghost use Rattle.cells.specs.Keys.{keyOf, levelOf};
 ghost use Rattle.key_sort.specs.Order.{AreKeys};
-ghost use Rattle.fill.specs.Words.{sheetIn, Words};
+ghost use Rattle.fill.specs.Words.{sheetIn, Words, isUnreached};
 ghost use Rattle.grid_laws.proofs.Cells.{InRange};
 
 // Puts the keys of the elevations first into the work buffer.
@@ -31,18 +36,50 @@ pub fn load(elevations: &[i16], work: &mut [u32])
     }
 }
 
-// Floods the sheet whose keys stand in the work buffer: each word is then the cell's key, and above it the filled one.
-pub fn fill_words(g: Grid, work: &mut [u32])
+// Whether the word of a cell has a key and no level above it.
+fn is_unreached(word: u32) -> bool
+    ensures { λ r. ⌜ r ≡ (ltb 0 word && ltb word 65536) ⌝ }
+{
+    if word == 0 {
+        return false;
+    }
+    word < 65536
+}
+
+// The first data cell that the flood has not come to, or `n`.
+fn first_unreached(n: usize, work: &[u32]) -> usize
+    requires { ⌜ n ≤ length (now work) ⌝ }
+    requires { ⌜ n < 2 ^ 24 ⌝ }
+    ensures { λ r. ⌜ r ≡ firstBelow n (isUnreached (now (work .entry))) ⌝ }
+{
+    let mut c: usize = 0;
+    while c < n {
+        if is_unreached(work[c]) {
+            return c;
+        }
+        c += 1;
+    }
+    n
+}
+
+// Floods the sheet whose keys stand in the work buffer: the first stranded cell, or the number of cells, and then each word is the cell's
+// key, and above it the filled one. Where every side is open no cell is stranded.
+pub fn fill_words(g: Grid, work: &mut [u32]) -> usize
     requires { ⌜ size g < 2 ^ 24 ⌝ }
     requires { ⌜ g .cols < 2 ^ 24 ⌝ }
     requires { ⌜ 4 * size g ≤ length (now work) ⌝ }
     requires { ⌜ AreKeys (size g) (now work) ⌝ }
-    ensures { λ r. ⌜ Words g (sheetIn (size g) (now (work .entry))) (now (work .exit)) ⌝ }
+    ensures { λ r. ⌜ r ≡ firstStranded g (sheetIn (size g) (now (work .entry))) ⌝ }
+    ensures { λ r. ⌜ (r ≡ size g → Words g (sheetIn (size g) (now (work .entry))) (now (work .exit))) ⌝ }
 {
     let n = g.rows * g.cols;
     let half = work.len() / 2;
     key_sort::sort(n, work);
     flood::flood(g, half, work);
+    if g.sides == 0 {
+        return n;
+    }
+    first_unreached(n, work)
 }
 
 // Puts the levels of the flood, above the keys, as elevations into `filled`.
@@ -58,21 +95,56 @@ fn unload(n: usize, work: &[u32], filled: &mut [i16])
     }
 }
 
-// Fills the sheet whose keys stand in the work buffer into `filled`.
-pub fn fill_loaded(g: Grid, filled: &mut [i16], work: &mut [u32])
+// Fills the sheet whose keys stand in the work buffer into `filled`: the first stranded cell, and then nothing is written, or the number of
+// cells.
+pub fn fill_loaded(g: Grid, filled: &mut [i16], work: &mut [u32]) -> usize
     requires { ⌜ size g < 2 ^ 24 ⌝ }
     requires { ⌜ g .cols < 2 ^ 24 ⌝ }
     requires { ⌜ length (now filled) ≡ size g ⌝ }
     requires { ⌜ 4 * size g ≤ length (now work) ⌝ }
     requires { ⌜ AreKeys (size g) (now work) ⌝ }
-    ensures { λ r. ⌜ now (filled .exit) ≡ filled' g (sheetIn (size g) (now (work .entry))) ⌝ }
+    ensures { λ r. ⌜ r ≡ firstStranded g (sheetIn (size g) (now (work .entry))) ⌝ }
+    ensures { λ r. ⌜ now (filled .exit)
+        ≡ cond (eqb r (size g)) (filled' g (sheetIn (size g) (now (work .entry)))) (now (filled .entry)) ⌝ }
 {
     let n = g.rows * g.cols;
-    fill_words(g, work);
+    let first = fill_words(g, work);
+    if first < n {
+        return first;
+    }
     unload(n, work, filled);
+    first
 }
 
-// Question 5 to 9, and after a yes the filled sheet.
+// Loads a sheet and floods it: the first stranded cell, or the number of cells, and then the words of its filled sheet.
+pub fn fill_sheet(g: Grid, elevations: &[i16], work: &mut [u32]) -> usize
+    requires { ⌜ size g < 2 ^ 24 ⌝ }
+    requires { ⌜ g .cols < 2 ^ 24 ⌝ }
+    requires { ⌜ length (now elevations) ≡ size g ⌝ }
+    requires { ⌜ 4 * size g ≤ length (now work) ⌝ }
+    ensures { λ r. ⌜ r ≡ firstStranded g (now (elevations .entry)) ⌝ }
+    ensures { λ r. ⌜ (r ≡ size g → Words g (now (elevations .entry)) (now (work .exit))) ⌝ }
+    ensures { λ r. ⌜ InRange (now (elevations .entry)) ⌝ }
+{
+    load(elevations, work);
+    fill_words(g, work)
+}
+
+// Question 18: the first data cell that has no chain to an outlet, or the number of cells.
+pub fn first_stranded(g: Grid, elevations: &[i16], work: &mut [u32]) -> usize
+    requires { ⌜ size g < 2 ^ 24 ⌝ }
+    requires { ⌜ g .cols < 2 ^ 24 ⌝ }
+    requires { ⌜ length (now elevations) ≡ size g ⌝ }
+    requires { ⌜ 4 * size g ≤ length (now work) ⌝ }
+    ensures { λ r. ⌜ r ≡ firstStranded g (now (elevations .entry)) ⌝ }
+{
+    if g.sides == 0 {
+        return elevations.len();
+    }
+    fill_sheet(g, elevations, work)
+}
+
+// Questions 5 to 9, with 17, then 18, and after a yes the filled sheet.
 pub fn fill(g: Grid, elevations: &[i16], filled: &mut [i16], work: &mut [u32]) -> Answer
     ensures { λ r. ⌜ FillPromise g (now (elevations .entry)) (now (filled .entry)) (now (filled .exit)) (now (work .entry))
         (now (work .exit)) r ⌝ }
@@ -80,11 +152,17 @@ pub fn fill(g: Grid, elevations: &[i16], filled: &mut [i16], work: &mut [u32]) -
     let given = elevations.len();
     let wanted = filled.len();
     let room = work.len();
-    let answer = checks::check(g, given, given, wanted, wanted, wanted, wanted, room);
+    let answer = checks::check_outlets(g, given, wanted, wanted, wanted, wanted, room);
     if answer.number != 0 {
         return answer;
     }
     load(elevations, work);
-    fill_loaded(g, filled, work);
+    let first = fill_loaded(g, filled, work);
+    if first < given {
+        return Answer {
+            number: 18,
+            place: first as u32,
+        };
+    }
     answer
 }

@@ -4,11 +4,12 @@
 --   filled-outlet                         and its outlets are the input's
 --   input-≤-filled filled-at-outlet       it is nowhere below the input, and equal to it at outlets
 --   one-pass-more                         rows * columns passes are enough
---   filled-≤-highest lowest-path          minimax: it is the least highest elevation of the paths to an outlet, of which there are some
---   some-path
+--   filled-≤-highest filled-least         no path to an outlet has a lower highest elevation, and no drained sheet (a rival sheet) is lower
+--   drained-filled                        what drains is its own filled sheet
+-- and where no data cell is stranded, so that there are paths (question 18):
+--   some-path lowest-path                 minimax: it is the least highest elevation of the paths to an outlet
 --   never-rising-path lower-neighbour     from each data cell a path never rises on it
---   filled-drained filled-least           it is a drained sheet (a rival sheet), and at most every other
---   drained-filled filled-again           what drains is its own filled sheet, so filling again changes nothing
+--   filled-drained filled-again           it is a drained sheet, so filling again changes nothing
 use mathlib.Core.Path.{_≡_, refl, sym, _∙_, subst}
 use mathlib.Core.Logic.{⊎-elim}
 use mathlib.Core.Bool.{Bool, true, false}
@@ -24,7 +25,7 @@ use lib.Signed.{_≤ℤ_, ≤ℤ-refl}
 use Rattle.grid.specs.declared.Grid.{Grid}
 use Rattle.grid.specs.Below.{lastOf}
 use Rattle.grid.specs.Sheet.{size, void, top, at, isData, DataCell, Chain, NeverRises, highest}
-use Rattle.grid.specs.Outlet.{isOutlet, Outlet}
+use Rattle.grid.specs.Outlet.{isOutlet, Outlet, firstStranded}
 use Rattle.grid.specs.Fill.{passes, filled}
 use Rattle.grid.specs.Guarantee.{PathToOutlet, DrainedSheet}
 use Rattle.grid_laws.proofs.Tests.{test, T-true, true-T, true-false, not-false-true}
@@ -36,7 +37,7 @@ use Rattle.fill_laws.specs.Filling.{Falls, Filling}
 use Rattle.fill_laws.specs.Certificate.{DataNeighbours}
 use Rattle.fill_laws.proofs.Squeeze as Squeeze
 use Rattle.fill_laws.proofs.Passes.{filling, length-passes, passes-void}
-use Rattle.fill_laws.proofs.Left.{some-way}
+use Rattle.fill_laws.proofs.Reach.{some-way}
 use Rattle.fill_laws.proofs.Paths.{WayOut, way-of-path, path-of-way, highest-peak, never-rises-falls, falls-never-rises}
 
 -- ---- sheets with the same data cells have the same paths
@@ -46,9 +47,9 @@ module _ (g : Grid) (e f : List ℤ) (same : (c : ℕ) → isData f c ≡ isData
   same-chain (c ∷ []) h = subst T (sym (same c)) h
   same-chain (c ∷ d ∷ l) h = (subst T (sym (same c)) (h .0), h .1, same-chain (d ∷ l) (h .2))
 
-  pub same-path : length e ≡ size g → length f ≡ size g → (c : ℕ) (l : List ℕ) → PathToOutlet g e c l → PathToOutlet g f c l
-  same-path le lf c l p =
-      let o = subst T (sym (same-outlets g f e lf le same (lastOf l (size g)))) (p .outlet) in
+  pub same-path : (c : ℕ) (l : List ℕ) → PathToOutlet g e c l → PathToOutlet g f c l
+  same-path c l p =
+      let o = subst T (sym (same-outlets g f e same (lastOf l (size g)))) (p .outlet) in
       record { starts = p .starts; chain = same-chain l (p .chain); outlet = o }
 
 pub filled-length : (g : Grid) (e : List ℤ) → length (filled g e) ≡ size g
@@ -56,10 +57,6 @@ unfolding filled
 filled-length g e = length-passes g e (size g)
 
 module _ (g : Grid) (e : List ℤ) (cells-e : length e ≡ size g) (range : InRange e) where
-  -- all that these laws use of what an outlet is
-  way-out : (c : ℕ) → DataCell e c → WayOut g e c
-  way-out c d = some-way g e cells-e c d
-
   fills : Filling (size g) (DataCell e) (Outlet g e) (DataNeighbours g e) (at e) (λ k c. at (passes g e k) c)
   fills = filling g e cells-e range
 
@@ -104,7 +101,7 @@ module _ (g : Grid) (e : List ℤ) (cells-e : length e ≡ size g) (range : InRa
           (≤ℤ-antisym (≤ℤ-trans (input-≤-filled c (true-T d)) (≤ℤ-of-eq (no-data-void (filled g e) c n))) (range c .0))))
 
   pub filled-outlet : (c : ℕ) → isOutlet g (filled g e) c ≡ isOutlet g e c
-  filled-outlet c = same-outlets g (filled g e) e (filled-length g e) cells-e filled-data c
+  filled-outlet c = same-outlets g (filled g e) e filled-data c
 
   -- ---- rows * columns passes are enough
   pub one-pass-more : passes g e (suc (size g)) ≡ passes g e (size g)
@@ -123,18 +120,34 @@ module _ (g : Grid) (e : List ℤ) (cells-e : length e ≡ size g) (range : InRa
       let w = way-of-path g e c l p in
       subst (λ (m : List ℕ). at (passes g e (size g)) c ≤ℤ highest e m) (w .1) (rw (highest-peak g e (w .0)) (Squeeze.≤-peak fills (w .0)))
 
+  -- ---- it is at most every other sheet that drains
+  pub filled-least : (other : List ℤ) → DrainedSheet g e other → (c : ℕ) → DataCell e c → at (filled g e) c ≤ℤ at other c
+  unfolding filled
+  filled-least other D c d =
+      let p = D .drains c d in
+      let w = way-of-path g e c (p .0) (p .1) in
+      let r = never-rises-falls g e other (w .0) (subst (NeverRises other) (sym (w .1)) (p .2)) in
+      Squeeze.≤-drained fills (at other) (D .above) (w .0) r
+
+-- ---- on a sheet that passes question 18
+module _ (g : Grid) (e : List ℤ) (cells-e : length e ≡ size g) (range : InRange e) (reach : firstStranded g e ≡ size g) where
+  -- all that these laws use of what an outlet is
+  way-out : (c : ℕ) → DataCell e c → WayOut g e c
+  way-out c d = some-way g e cells-e reach c d
+
   pub some-path : (c : ℕ) → DataCell e c → (l : List ℕ) × PathToOutlet g e c l
   some-path c d = let w = way-out c d in (cells w, path-of-way g e w)
 
   pub lowest-path : (c : ℕ) → DataCell e c → (l : List ℕ) × PathToOutlet g e c l × (highest e l ≡ at (filled g e) c)
   unfolding filled
   lowest-path c d =
-      let w = Squeeze.lowest-way fills way-out c d in (cells (w .0), path-of-way g e (w .0), highest-peak g e (w .0) ∙ w .1)
+      let w = Squeeze.lowest-way (fills g e cells-e range) way-out c d in
+      (cells (w .0), path-of-way g e (w .0), highest-peak g e (w .0) ∙ w .1)
 
   -- ---- the filled sheet drains
   falling : (c : ℕ) → DataCell e c → (w : WayOut g e c) × Falls (at (filled g e)) w
   unfolding filled
-  falling c d = Squeeze.falling-way fills way-out c d
+  falling c d = Squeeze.falling-way (fills g e cells-e range) way-out c d
 
   pub never-rising-path : (c : ℕ) → DataCell e c → (l : List ℕ) × PathToOutlet g e c l × NeverRises (filled g e) l
   never-rising-path c d = let w = falling c d in (cells (w .0), path-of-way g e (w .0), falls-never-rises g e (filled g e) (w .0) (w .1))
@@ -155,20 +168,11 @@ module _ (g : Grid) (e : List ℤ) (cells-e : length e ≡ size g) (range : InRa
   filled-drained =
       record {
         cells = filled-length g e;
-        voids = λ c h. filled-data c;
-        outlets = λ c h. filled-outlet c;
-        above = input-≤-filled;
+        voids = λ c h. filled-data g e cells-e range c;
+        outlets = λ c h. filled-outlet g e cells-e range c;
+        above = input-≤-filled g e cells-e range;
         drains = never-rising-path;
       }
-
-  -- ---- and is the lowest that does
-  pub filled-least : (other : List ℤ) → DrainedSheet g e other → (c : ℕ) → DataCell e c → at (filled g e) c ≤ℤ at other c
-  unfolding filled
-  filled-least other D c d =
-      let p = D .drains c d in
-      let w = way-of-path g e c (p .0) (p .1) in
-      let r = never-rises-falls g e other (w .0) (subst (NeverRises other) (sym (w .1)) (p .2)) in
-      Squeeze.≤-drained fills (at other) (D .above) (w .0) r
 
 -- ---- what drains is its own filled sheet
 pub drained-filled :
@@ -187,8 +191,8 @@ drained-filled g f cells-f range drains =
     own : DrainedSheet g f f
     own = record { cells = cells-f; voids = λ c h. refl; outlets = λ c h. refl; above = λ c d. ≤ℤ-refl (at f c); drains = drains }
 
-pub filled-again : (g : Grid) (e : List ℤ) → length e ≡ size g → InRange e → filled g (filled g e) ≡ filled g e
-filled-again g e cells-e range =
+pub filled-again : (g : Grid) (e : List ℤ) → length e ≡ size g → InRange e → firstStranded g e ≡ size g → filled g (filled g e) ≡ filled g e
+filled-again g e cells-e range reach =
     drained-filled g (filled g e) (filled-length g e) (filled-range g e cells-e range)
-    (λ c d. let p = never-rising-path g e cells-e range c (subst T (filled-data g e cells-e range c) d) in
-    (p .0, same-path g e (filled g e) (filled-data g e cells-e range) cells-e (filled-length g e) c (p .0) (p .1), p .2))
+    (λ c d. let p = never-rising-path g e cells-e range reach c (subst T (filled-data g e cells-e range c) d) in
+    (p .0, same-path g e (filled g e) (filled-data g e cells-e range) c (p .0) (p .1), p .2))

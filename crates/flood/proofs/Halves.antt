@@ -9,7 +9,7 @@ use lib.ListN.{length, getD, set}
 use Rattle.grid.specs.declared.Grid.{Grid}
 use Rattle.grid.specs.Sheet.{size}
 use Rattle.key_sort.specs.Order.{Sorted}
-use Rattle.flood_laws.specs.Flood.{CellOf, Wanted, Touched, Opens, Opening, During, Spread, Between}
+use Rattle.flood_laws.specs.Flood.{CellOf, Wanted, Touched, VoidOrReached, Opening, During, Spread, Between}
 use Rattle.flood_laws.specs.Packed.{frontOf, backOf}
 use Rattle.flood_laws.proofs.Steps.{spread-none, during-first, during-most, skip-void, skip-reached, skip-closed, between-room}
 use Rattle.flood_laws.proofs.Steps.{reach-first, drained}
@@ -52,25 +52,24 @@ module _ (n half v m : ℕ) (w : List ℕ) where
   wanted-low W = let y = W .2 in omega (arith, back-level n half w m (W .0 .0))
 
   abbrev pub DoesOpen : Type 0
-  DoesOpen = (true ≡ true → Opens n (frontOf n w) (backOf n half w) m) × (true ≡ false → Opens n (frontOf n w) (backOf n half w) m → ⊥)
+  DoesOpen =
+      (true ≡ true → VoidOrReached n (frontOf n w) (backOf n half w) m)
+      × (true ≡ false → VoidOrReached n (frontOf n w) (backOf n half w) m → ⊥)
 
-  yes′ : Opens n (frontOf n w) (backOf n half w) m → DoesOpen
+  yes′ : VoidOrReached n (frontOf n w) (backOf n half w) m → DoesOpen
   yes′ o = (λ e. o, λ e. absurd (true≢false e))
 
-  pub opens-off : n ≤ m → DoesOpen
-  opens-off h = yes′ (inl (λ t. let y = t .0 in omega arith))
-
   pub opens-void : m < n → getD w m 0 ≡ 0 → DoesOpen
-  opens-void h e = yes′ (inl (λ t. let y = t .1 in let q = front-key n w m h in omega arith))
+  opens-void h e = yes′ (inl (let q = front-key n w m h in omega arith))
 
   pub opens-reached : m < n → 65536 ≤ getD w m 0 → DoesOpen
   opens-reached h l = yes′ (inr (let q = back-level n half w m h in omega arith))
 
-  pub opens-not : m < n → (getD w m 0 ≡ 0 → ⊥) → getD w m 0 < 65536 → (false ≡ true → Opens n (frontOf n w) (backOf n half w) m)
-      × (false ≡ false → Opens n (frontOf n w) (backOf n half w) m → ⊥)
+  pub opens-not : m < n → (getD w m 0 ≡ 0 → ⊥) → getD w m 0 < 65536 → (false ≡ true → VoidOrReached n (frontOf n w) (backOf n half w) m)
+      × (false ≡ false → VoidOrReached n (frontOf n w) (backOf n half w) m → ⊥)
   opens-not h f l = (
     λ q. absurd (true≢false (sym q)),
-    λ q. ⊎-elim (λ n. let k = front-key _ w m h in n (h, omega arith)) (λ r. let k = back-level n half w m h in omega arith),
+    λ q. ⊎-elim (λ e. let k = front-key n w m h in omega arith) (λ r. let k = back-level n half w m h in omega arith),
   )
 
 -- a touch that reaches

@@ -8,9 +8,9 @@ ghost use mathlib.Core.Bool.{true, false};
 ghost use mathlib.Core.Logic.{_⊎_};
 ghost use Prim.Native.Nat.{ℕ, _+_, _*_, _/_, _%_, _<_, _≤_, _^_};
 ghost use lib.ListN.{length, getD, set};
-ghost use Rattle.grid.specs.Sheet.{size, neighbour};
+ghost use Rattle.grid.specs.Sheet.{size};
 ghost use Rattle.key_sort.specs.Order.{Sorted};
-ghost use Rattle.flood_laws.specs.Flood.{CellOf, Between, During, Spread, Wanted, Touched, Room, Opens, Opening};
+ghost use Rattle.flood_laws.specs.Flood.{CellOf, Between, During, Spread, Wanted, Touched, Room, VoidOrReached, Opens, Opening};
 ghost use Rattle.flood_laws.specs.Packed.{frontOf, backOf};
 ghost use Rattle.cells.specs.Steps.{Inner, Offsets};
 
@@ -210,8 +210,8 @@ fn drain(
 fn opens(n: usize, half: usize, m: usize, work: &[u32]) -> bool
     requires { ⌜ n ≤ length (now work) ⌝ }
     requires { ⌜ m < n ⌝ }
-    ensures { λ r. ⌜ (r ≡ true → Opens n (frontOf n (now (work .entry))) (backOf n half (now (work .entry))) m) ⌝ }
-    ensures { λ r. ⌜ (r ≡ false → Opens n (frontOf n (now (work .entry))) (backOf n half (now (work .entry))) m → ⊥) ⌝ }
+    ensures { λ r. ⌜ (r ≡ true → VoidOrReached n (frontOf n (now (work .entry))) (backOf n half (now (work .entry))) m) ⌝ }
+    ensures { λ r. ⌜ (r ≡ false → VoidOrReached n (frontOf n (now (work .entry))) (backOf n half (now (work .entry))) m → ⊥) ⌝ }
 {
     let word = work[m];
     if word == 0 {
@@ -223,19 +223,22 @@ fn opens(n: usize, half: usize, m: usize, work: &[u32]) -> bool
     true
 }
 
-// The same for what may lie off the sheet, which opens too.
-fn opens_any(n: usize, half: usize, m: usize, work: &[u32]) -> bool
-    requires { ⌜ n ≤ length (now work) ⌝ }
-    ensures { λ r. ⌜ (r ≡ true → Opens n (frontOf n (now (work .entry))) (backOf n half (now (work .entry))) m) ⌝ }
-    ensures { λ r. ⌜ (r ≡ false → Opens n (frontOf n (now (work .entry))) (backOf n half (now (work .entry))) m → ⊥) ⌝ }
+// Whether a step at the position `p` that leads to `m` opens: off the sheet through an open side, or to a void or reached cell.
+fn opens_any(g: Grid, n: usize, half: usize, p: usize, m: usize, work: &[u32]) -> bool
+    requires { ⌜ n ≡ size g ⌝ }
+    requires { ⌜ size g ≤ length (now work) ⌝ }
+    requires { ⌜ p < 8 ⌝ }
+    requires { ⌜ m ≤ size g ⌝ }
+    ensures { λ r. ⌜ (r ≡ true → Opens g (frontOf (size g) (now (work .entry))) (backOf (size g) half (now (work .entry))) p m) ⌝ }
+    ensures { λ r. ⌜ (r ≡ false → Opens g (frontOf (size g) (now (work .entry))) (backOf (size g) half (now (work .entry))) p m → ⊥) ⌝ }
 {
     if m >= n {
-        return true;
+        return cells::is_open(g, p);
     }
     opens(n, half, m, work)
 }
 
-// `is_opening` for a cell within the border.
+// `is_opening` for a cell within the border, from which no step leads off the sheet: one leaves where it leads to a void.
 fn opening_inner(g: Grid, half: usize, c: usize, offsets: &[usize; 8], work: &[u32]) -> bool
     requires { ⌜ size g < 2 ^ 24 ⌝ }
     requires { ⌜ size g ≤ length (now work) ⌝ }
@@ -257,7 +260,7 @@ fn opening_inner(g: Grid, half: usize, c: usize, offsets: &[usize; 8], work: &[u
     false
 }
 
-// `is_opening` for a cell on the border.
+// `is_opening` for a cell on the border, where a step off the sheet leaves only through an open side.
 fn opening_border(g: Grid, half: usize, c: usize, work: &[u32]) -> bool
     requires { ⌜ size g < 2 ^ 24 ⌝ }
     requires { ⌜ size g ≤ length (now work) ⌝ }
@@ -269,7 +272,7 @@ fn opening_border(g: Grid, half: usize, c: usize, work: &[u32]) -> bool
     let mut p: usize = 0;
     while p < 8 {
         let m = cells::neighbour(g, c, p);
-        if opens_any(n, half, m, work) {
+        if opens_any(g, n, half, p, m, work) {
             return true;
         }
         p += 1;
@@ -277,8 +280,8 @@ fn opening_border(g: Grid, half: usize, c: usize, work: &[u32]) -> bool
     false
 }
 
-// Whether the data cell `c` is an outlet or beside a reached cell. Both are one test here: a step leads off the sheet, to a void or to a
-// reached cell.
+// Whether the data cell `c` is an outlet or beside a reached cell. Both are asked step by step: a step leaves, which makes `c` an outlet,
+// or leads to a reached cell.
 fn is_opening(g: Grid, half: usize, c: usize, offsets: &[usize; 8], work: &[u32]) -> bool
     requires { ⌜ size g < 2 ^ 24 ⌝ }
     requires { ⌜ size g ≤ length (now work) ⌝ }

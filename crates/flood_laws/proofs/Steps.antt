@@ -1,5 +1,6 @@
 -- The flood's steps, over the two lists.
 use mathlib.Core.Path.{_≡_, refl, sym, _∙_, ap, subst}
+use mathlib.Core.Bool.{true, false}
 use mathlib.Core.Logic.{_⊎_, inl, inr, ⊎-elim}
 use mathlib.Core.List.{List}
 use Prim.Native.Nat.{ℕ, _+_, _≤_, _<_}
@@ -10,10 +11,12 @@ use lib.ListN.{length, getD, set, length-set}
 use lib.Seq.{getD-set-same, getD-set-other}
 use Rattle.grid.specs.declared.Grid.{Grid}
 use Rattle.grid.specs.Sheet.{size, neighbour, Touch}
+use Rattle.grid.specs.Outlet.{isOpen}
+use Rattle.grid_laws.proofs.Tests.{true-false}
 use Rattle.grid_laws.proofs.Neighbours.{touch-back}
 use Rattle.key_sort.specs.Order.{Ahead, Sorted}
 use Rattle.flood_laws.specs.Flood.{CellOf, NextTo, OutletOf, FloodOf, Between, During, Spread, Wanted}
-use Rattle.flood_laws.specs.Flood.{Touched, Room, Opens, Opening}
+use Rattle.flood_laws.specs.Flood.{Touched, Room, VoidOrReached, Opens, Opening}
 use Rattle.flood_laws.proofs.Marks.{room, no-marks, at-most}
 use Rattle.flood_laws.proofs.Reach as Reach
 
@@ -156,19 +159,40 @@ module _ (g : Grid) (f b : List ℕ) (k v head len x p : ℕ) where
 
 -- ---- what opens a cell
 module _ (g : Grid) (f b : List ℕ) (c : ℕ) where
-  -- a step that opens makes c an outlet, or stands beside it reached
-  pub opening-of : CellOf (size g) f c → (p : ℕ) → p < 8 → Opens (size g) f b (neighbour g c p) → Opening g f b c
-  opening-of t p hp o = go o (decLt (neighbour g c p) (size g)) (decLt 0 (getD f (neighbour g c p) 0))
+  -- a step that opens makes c an outlet, or leads to a reached cell beside it
+  pub opening-of : CellOf (size g) f c → (p : ℕ) → p < 8 → Opens g f b p (neighbour g c p) → Opening g f b c
+  opening-of t p hp o = go o (decLt 0 (getD f (neighbour g c p) 0))
     where
-      go : Opens (size g) f b (neighbour g c p) → Dec (neighbour g c p < size g) → Dec (0 < getD f (neighbour g c p) 0) → Opening g f b c
-      go q (no n) e = inl (t, (p, hp, λ x. n (x .0)))
-      go q (yes y) (no n) = inl (t, (p, hp, λ x. n (x .1)))
-      go (inl n) (yes y) (yes z) = absurd (n (y, z))
-      go (inr r) (yes y) (yes z) = inr (neighbour g c p, (t, (y, z), (p, hp, refl)), r)
+      go : Opens g f b p (neighbour g c p) → Dec (0 < getD f (neighbour g c p) 0) → Opening g f b c
+      go (inl x) d = inl (t, (p, hp, x))
+      go (inr (y, r)) (no n) = inl (t, (p, hp, inr (y, omega arith)))
+      go (inr (y, r)) (yes z) = inr (neighbour g c p, (t, (y, z), (p, hp, refl)), r)
 
-  pub none-opens : ((p : ℕ) → p < 8 → Opens (size g) f b (neighbour g c p) → ⊥) → Opening g f b c → ⊥
+  pub none-opens : ((p : ℕ) → p < 8 → Opens g f b p (neighbour g c p) → ⊥) → Opening g f b c → ⊥
   none-opens n (inl (t, (p, hp, x))) = n p hp (inl x)
-  none-opens n (inr (m, (t, u, (p, hp, e)), r)) = n p hp (inr (subst (λ (x : ℕ). 0 < getD b (size g + x) 0) (sym e) r))
+  none-opens n (inr (m, (t, u, (p, hp, e)), r)) =
+      n p hp (inr (subst (λ (x : ℕ). (x < size g) × (0 < getD b (size g + x) 0)) (sym e) (u .0, r)))
+
+-- a step that stays on the sheet opens where it leads to a void or a reached cell, and only there
+module _ (g : Grid) (f b : List ℕ) (p : ℕ) {m k : ℕ} (e : m ≡ k) (h : m < size g) where
+  pub opens-on : VoidOrReached (size g) f b m → Opens g f b p k
+  opens-on (inl z) = inl (inr (rw e at h, rw e at z))
+  opens-on (inr r) = inr (rw e at h, rw e at r)
+
+  pub opens-not-on : (VoidOrReached (size g) f b m → ⊥) → Opens g f b p k → ⊥
+  opens-not-on n (inl (inl (q, o))) = omega arith
+  opens-not-on n (inl (inr (y, z))) = n (inl (rw e z))
+  opens-not-on n (inr (y, r)) = n (inr (rw e r))
+
+-- one off the sheet opens through an open side, and only there
+module _ (g : Grid) (f b : List ℕ) (p m : ℕ) (h : m ≡ size g) where
+  pub opens-off : isOpen g p ≡ true → Opens g f b p m
+  opens-off o = inl (inl (h, o))
+
+  pub opens-not-off : isOpen g p ≡ false → Opens g f b p m → ⊥
+  opens-not-off n (inl (inl (e, o))) = true-false o n
+  opens-not-off n (inl (inr (y, e))) = omega arith
+  opens-not-off n (inr (y, r)) = omega arith
 
 -- ---- from one cell of the order to the next
 module _ (g : Grid) (f b : List ℕ) (S : Sorted (size g) f) where

@@ -1,7 +1,7 @@
 -- The state of a flood, over two lists: f, with the keys of the cells and then the cells in order of key, which stays; and b, with the
 -- queue of the reached cells and then the level of each cell, its filled key, 0 where it is not reached.
 use mathlib.Core.Path.{_≡_}
-use mathlib.Core.Bool.{cond}
+use mathlib.Core.Bool.{true, cond}
 use mathlib.Core.Logic.{_⊎_}
 use mathlib.Core.List.{List}
 use Prim.Native.Nat.{ℕ, zero, suc, _+_, _≤_, _<_}
@@ -9,6 +9,7 @@ use lib.ListN.{length, getD, set}
 use lib.Dec.{ltb}
 use Rattle.grid.specs.declared.Grid.{Grid}
 use Rattle.grid.specs.Sheet.{size, neighbour, Touch}
+use Rattle.grid.specs.Outlet.{isOpen}
 use Rattle.key_sort.specs.Order.{Ahead}
 
 -- how many of level 0 .. level (n - 1) are not 0
@@ -39,9 +40,17 @@ CellOf n f c = (c < n) × (0 < getD f c 0)
 abbrev pub NextTo : Grid → List ℕ → ℕ → ℕ → Type 0
 NextTo g f c m = CellOf (size g) f c × CellOf (size g) f m × Touch g c m
 
--- c is an outlet, by its own key and its neighbours': a step leads to what is no data cell. The one place here that knows the rule
+-- a step at position p that leads to m leaves: off the sheet through an open side, or to a void. The one place here that knows the rule
+abbrev pub LeavesTo : Grid → List ℕ → ℕ → ℕ → Type 0
+LeavesTo g f p m = ((m ≡ size g) × (isOpen g p ≡ true)) ⊎ ((m < size g) × (getD f m 0 ≡ 0))
+
+-- the step from c at position p leaves
+abbrev pub LeavesOf : Grid → List ℕ → ℕ → ℕ → Type 0
+LeavesOf g f c p = LeavesTo g f p (neighbour g c p)
+
+-- c is an outlet, by its own key and its neighbours': a data cell with a step that leaves
 abbrev pub OutletOf : Grid → List ℕ → ℕ → Type 0
-OutletOf g f c = CellOf (size g) f c × ((p : ℕ) × (p < 8) × (CellOf (size g) f (neighbour g c p) → ⊥))
+OutletOf g f c = CellOf (size g) f c × ((p : ℕ) × (p < 8) × LeavesOf g f c p)
 
 abbrev pub FloodOf : Grid → List ℕ → List ℕ → (k v head len : ℕ) → Type 0
 FloodOf g f b k v head len =
@@ -88,9 +97,13 @@ Touched n f b b' v len m r =
 abbrev pub Room : ℕ → List ℕ → ℕ → Type 0
 Room n b len = (m : ℕ) → m < n → getD b (n + m) 0 ≡ 0 → len < n
 
--- m is beside a cell as a reason to reach that: off the sheet, void or reached
-abbrev pub Opens : ℕ → List ℕ → List ℕ → ℕ → Type 0
-Opens n f b m = (CellOf n f m → ⊥) ⊎ (0 < getD b (n + m) 0)
+-- m, a cell of the sheet, is void or reached
+abbrev pub VoidOrReached : ℕ → List ℕ → List ℕ → ℕ → Type 0
+VoidOrReached n f b m = (getD f m 0 ≡ 0) ⊎ (0 < getD b (n + m) 0)
+
+-- a step at position p that leads to m is a reason to reach the cell that it starts from: it leaves, or m is reached
+abbrev pub Opens : Grid → List ℕ → List ℕ → ℕ → ℕ → Type 0
+Opens g f b p m = LeavesTo g f p m ⊎ ((m < size g) × (0 < getD b (size g + m) 0))
 
 -- c is an outlet or beside a reached cell
 abbrev pub Opening : Grid → List ℕ → List ℕ → ℕ → Type 0

@@ -192,8 +192,9 @@ module _ (g : Grid) (e : List ℤ) (len : length e ≡ size g) (work : List ℕ)
         clash : isLevelZero g e cell ≡ true → ⊥
         clash z = let a = has-level in let b = L .certified .zero-has cell on z in omega arith
 
-    pub high-within : Inner g (cell / g .cols) (cell % g .cols)
-    high-within = flat-within g e len cell on high-data not-zero
+    -- where every side is open it lies within the border
+    pub high-within : g .sides ≡ 0 → Inner g (cell / g .cols) (cell % g .cols)
+    high-within sides = flat-within g e cell on high-data not-zero (inl sides)
 
     pub high-code : choice (flatSum g e (levelsIn g work) cell) ≡ directionAt g e (levelsIn g work) cell
     unfolding isLevelZero

@@ -18,10 +18,11 @@ use Rattle.grid.specs.Outlet.{isOutlet, outletCode}
 use Rattle.grid.specs.Directions.{isLevelZero, hasDescent, isSteepest, steepestSum, choice, directionAt, directions, firstUnlevelled}
 use Rattle.grid_laws.proofs.Tests.{test, true-false, and-true, and-left, and-right, and-false-left, or-left, or-right, cond-true}
 use Rattle.grid_laws.proofs.Tests.{cond-false}
-use Rattle.grid_laws.proofs.Tests.{not-of-false, not-is-true, not-false-true}
+use Rattle.grid_laws.proofs.Tests.{not-is-true}
 use Rattle.grid_laws.proofs.Below.{at-table, first-ext, first-all}
 use Rattle.grid_laws.proofs.Cells.{no-data-void}
 use Rattle.cells.specs.Keys.{keyOf}
+use Rattle.cells.proofs.Codes.{outlet-some}
 use Rattle.cells.proofs.Keys.{key-void, zero-no-data}
 use Rattle.flow_laws.specs.Words.{wordLevel, levelIn, levelsIn, firstWord, Levelled}
 use Rattle.flow_laws.proofs.Agree.{certified-directions, certified-unlevelled}
@@ -76,14 +77,18 @@ module _ (g : Grid) (e : List ℤ) (c : ℕ) where
       slopes : isOutlet g e c ≡ false → cond (isOutlet g e c) (outletCode g e c) (choice (steepestSum g e c)) ≡ firstWord g e c
       slopes o = cond-false (outletCode g e c) (choice (steepestSum g e c)) o ∙ by-drop o (test (hasDescent g e c))
 
-  -- the word of an outlet
-  pub outlet-word : {r : ℕ} → isData e c ≡ true → isOutlet g e c ≡ true → r ≡ cond (isOutlet g e c) (outletCode g e c) 0 →
-      r ≡ firstWord g e c
-  outlet-word d o q =
+  -- the word from the code that `outlet_code` gives
+  pub outlet-word : {r : ℕ} → isData e c ≡ true → r ≡ cond (isOutlet g e c) (outletCode g e c) 0 → (r ≡ 0 → ⊥) → r ≡ firstWord g e c
+  outlet-word {r} d q f =
+      let o = outlet-some g e c r q f in
       q ∙ cond-true (outletCode g e c) 0 o ∙ sym (cond-true (outletCode g e c) (choice (steepestSum g e c)) o) ∙ data-word d
 
+  -- and from the sum, where a data cell is no outlet
+  pub drop-word : isData e c ≡ true → isOutlet g e c ≡ false → choice (steepestSum g e c) ≡ firstWord g e c
+  drop-word d o = sym (cond-false (outletCode g e c) (choice (steepestSum g e c)) o) ∙ data-word d
+
   -- ---- from a cell's sum
-  sum-below : steepestSum g e c < 256
+  pub sum-below : steepestSum g e c < 256
   unfolding steepestSum
   sum-below = sum-small (isSteepest g e c)
 
@@ -95,22 +100,10 @@ module _ (g : Grid) (e : List ℤ) (c : ℕ) where
       inner t =
           let d = and-left (isData e c) (not (isOutlet g e c)) t in
           let o = not-is-true (isOutlet g e c) (and-right (isData e c) (not (isOutlet g e c)) t) in
-          ap choice (q ∙ cond-true (steepestSum g e c) 256 t)
-          ∙ sym (cond-false (outletCode g e c) (choice (steepestSum g e c)) o)
-          ∙ data-word d
+          ap choice (q ∙ cond-true (steepestSum g e c) 256 t) ∙ drop-word d o
 
       outer : (isData e c && not (isOutlet g e c)) ≡ false → choice s ≡ firstWord g e c
       outer t = let z : s ≡ 256 = q ∙ cond-false (steepestSum g e c) 256 t in let y : ⊥ = omega arith in absurd y
-
-  pub sum-outer : (s : ℕ) → s ≡ innerSum g e c → 256 ≤ s → isData e c ≡ true → isOutlet g e c ≡ true
-  unfolding innerSum
-  sum-outer s q h d = not-false-true (isOutlet g e c) inner
-    where
-      inner : isOutlet g e c ≡ false → ⊥
-      inner o =
-          let z : s ≡ steepestSum g e c = q ∙ cond-true (steepestSum g e c) 256 (and-true d (not-of-false o)) in
-          let b = sum-below in
-          omega arith
 
 -- one more place of a list is as it should be
 pub stored-more : (f : ℕ → ℕ) (l : List ℕ) (i v : ℕ) → i < length l → ((c : ℕ) → c < i → getD l c 0 ≡ f c) → v ≡ f i → (c : ℕ) →

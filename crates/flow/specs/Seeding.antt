@@ -5,7 +5,6 @@ use Prim.Native.Nat.{ℕ, _≤_, _<_}
 use lib.ListN.{getD}
 use lib.IntN.{ℤ}
 use Rattle.grid.specs.declared.Grid.{Grid}
-use Rattle.grid_laws.proofs.Outlets.{Border}
 use Rattle.slopes.specs.Steepest.{innerSum}
 use Rattle.flow_laws.specs.Words.{firstWord}
 
@@ -16,7 +15,3 @@ WordsTo g e n work = (c : ℕ) → c < n → getD work c 0 ≡ firstWord g e c
 -- the cells from `from` to `to` have their sums
 abbrev pub SumsIn : Grid → List ℤ → ℕ → ℕ → List ℕ → Type 0
 SumsIn g e from to work = (c : ℕ) → from ≤ c → c < to → getD work c 0 ≡ innerSum g e c
-
--- these cells lie on the border
-abbrev pub BorderIn : Grid → ℕ → ℕ → Type 0
-BorderIn g from to = (c : ℕ) → from ≤ c → c < to → Border g c

@@ -12,29 +12,33 @@ ghost use lib.Dec.{eqb};
 ghost use lib.ListN.{length, getD};
 ghost use Rattle.grid.specs.Below.{table as table', firstBelow};
 ghost use Rattle.grid.specs.Sheet.{size, at, isData, codeAt};
-ghost use Rattle.grid.specs.Outlet.{isOutlet};
 ghost use Rattle.grid.specs.Directions.{directionAt, directions, flatSum, firstUnlevelled};
 ghost use Rattle.cells.specs.Keys.{levelOf};
 ghost use Rattle.cells.specs.Steps.{Inner, Offsets};
 ghost use Rattle.slopes.specs.Steepest.{choices as choices', innerSum};
 ghost use Rattle.flow_laws.specs.Words.{wordLevel, levelsIn, firstWord, Seeded, Levelled};
-ghost use Rattle.flow.specs.Seeding.{WordsTo, SumsIn, BorderIn};
+ghost use Rattle.flow.specs.Seeding.{WordsTo, SumsIn};
 
-// The word of an outlet before the search, its code, and 0 for a void.
-fn outer_word(g: Grid, elevations: &[i16], cell: usize) -> u32
+// The word of any cell before the search: an outlet's code, the choice among the largest drops of another data cell, which is 0 for a cell
+// of a flat, and 0 for a void.
+fn edge_word(g: Grid, elevations: &[i16], table: &[u8; 256], cell: usize) -> u32
     requires { ⌜ length (now elevations) ≡ size g ⌝ }
     requires { ⌜ size g < 2 ^ 24 ⌝ }
     requires { ⌜ cell < size g ⌝ }
-    requires { ⌜ (isData (now elevations) cell ≡ true → isOutlet g (now elevations) cell ≡ true) ⌝ }
+    requires { ⌜ now table ≡ choices' ⌝ }
     ensures { λ r. ⌜ r ≡ firstWord g (now (elevations .entry)) cell ⌝ }
 {
     if key_at(elevations, cell) == 0 {
         return 0;
     }
-    cells::outlet_code(g, elevations, cell) as u32
+    let code = cells::outlet_code(g, elevations, cell);
+    if code != 0 {
+        return code as u32;
+    }
+    slopes::choose(table, slopes::edge_sum(g, elevations, cell) as usize) as u32
 }
 
-// The word of a cell from its sum: the choice among its largest drops, and 0 for a cell of a flat.
+// The word of a cell within the border from its sum, which is 256 for an outlet and a void.
 fn inner_word(g: Grid, elevations: &[i16], table: &[u8; 256], cell: usize, sum: u32) -> u32
     requires { ⌜ length (now elevations) ≡ size g ⌝ }
     requires { ⌜ size g < 2 ^ 24 ⌝ }
@@ -46,7 +50,7 @@ fn inner_word(g: Grid, elevations: &[i16], table: &[u8; 256], cell: usize, sum: 
     if sum < 256 {
         return slopes::choose(table, sum as usize) as u32;
     }
-    outer_word(g, elevations, cell)
+    edge_word(g, elevations, table, cell)
 }
 
 // Goes on with words for the cells from `from` to `to`, whose sums stand in their places.
@@ -74,19 +78,26 @@ fn inner_words(
     }
 }
 
-// Goes on with words for the cells from `from` to `to`, which are outlets and voids.
-fn outer_words(g: Grid, elevations: &[i16], from: usize, to: usize, work: &mut [u32])
+// Goes on with words for the cells from `from` to `to`, which may lie on the border.
+fn edge_words(
+    g: Grid,
+    elevations: &[i16],
+    table: &[u8; 256],
+    from: usize,
+    to: usize,
+    work: &mut [u32],
+)
     requires { ⌜ length (now elevations) ≡ size g ⌝ }
     requires { ⌜ size g < 2 ^ 24 ⌝ }
     requires { ⌜ size g ≤ length (now work) ⌝ }
+    requires { ⌜ now table ≡ choices' ⌝ }
     requires { ⌜ (from ≤ to) × (to ≤ size g) ⌝ }
-    requires { ⌜ BorderIn g from to ⌝ }
     requires { ⌜ WordsTo g (now elevations) from (now work) ⌝ }
     ensures { λ r. ⌜ WordsTo g (now (elevations .entry)) to (now (work .exit)) ⌝ }
 {
     let mut cell = from;
     while cell < to {
-        work[cell] = outer_word(g, elevations, cell);
+        work[cell] = edge_word(g, elevations, table, cell);
         cell += 1;
     }
 }
@@ -114,32 +125,31 @@ fn seed_row(
     let to = from + (cols - 2);
     slopes::row_sums(g, offsets, elevations, from, to, work);
     inner_words(g, elevations, table, from, to, work);
-    outer_words(g, elevations, to, to + 2, work);
+    edge_words(g, elevations, table, to, to + 2, work);
 }
 
 // The words of a sheet with cells within its border.
-fn seed_rows(g: Grid, offsets: &[usize; 8], elevations: &[i16], work: &mut [u32])
+fn seed_rows(g: Grid, offsets: &[usize; 8], elevations: &[i16], table: &[u8; 256], work: &mut [u32])
     requires { ⌜ length (now elevations) ≡ size g ⌝ }
     requires { ⌜ size g < 2 ^ 24 ⌝ }
     requires { ⌜ size g ≤ length (now work) ⌝ }
+    requires { ⌜ now table ≡ choices' ⌝ }
     requires { ⌜ (3 ≤ g .rows) × (3 ≤ g .cols) ⌝ }
     requires { ⌜ Offsets (g .cols) (now offsets) ⌝ }
     ensures { λ r. ⌜ Seeded g (now (elevations .entry)) (now (work .exit)) ⌝ }
 {
-    let table = slopes::choices();
     let rows = g.rows;
     let cols = g.cols;
-    outer_words(g, elevations, 0, cols + 1, work);
+    edge_words(g, elevations, table, 0, cols + 1, work);
     let mut row: usize = 1;
     while row + 1 < rows {
-        seed_row(g, offsets, elevations, &table, row, work);
+        seed_row(g, offsets, elevations, table, row, work);
         row += 1;
     }
-    outer_words(g, elevations, row * cols + 1, elevations.len(), work);
+    edge_words(g, elevations, table, row * cols + 1, elevations.len(), work);
 }
 
-// Puts the first word of every cell into the work buffer, row by row: on the border, and on a sheet that is all border, there are only
-// outlets and voids.
+// Puts the first word of every cell into the work buffer, row by row; a sheet of fewer than three rows or columns is all border.
 fn seed(g: Grid, offsets: &[usize; 8], elevations: &[i16], work: &mut [u32])
     requires { ⌜ length (now elevations) ≡ size g ⌝ }
     requires { ⌜ size g < 2 ^ 24 ⌝ }
@@ -147,15 +157,16 @@ fn seed(g: Grid, offsets: &[usize; 8], elevations: &[i16], work: &mut [u32])
     requires { ⌜ Offsets (g .cols) (now offsets) ⌝ }
     ensures { λ r. ⌜ Seeded g (now (elevations .entry)) (now (work .exit)) ⌝ }
 {
+    let table = slopes::choices();
     if g.rows < 3 {
-        outer_words(g, elevations, 0, elevations.len(), work);
+        edge_words(g, elevations, &table, 0, elevations.len(), work);
         return;
     }
     if g.cols < 3 {
-        outer_words(g, elevations, 0, elevations.len(), work);
+        edge_words(g, elevations, &table, 0, elevations.len(), work);
         return;
     }
-    seed_rows(g, offsets, elevations, work);
+    seed_rows(g, offsets, elevations, &table, work);
 }
 
 // Whether a cell holds data and has no level.
@@ -223,6 +234,24 @@ fn is_below(elevations: &[i16], work: &[u32], k: u32, low: u32, word: u32, m: us
     near < word
 }
 
+// The same for what may lie off the sheet, which has no level.
+fn is_below_any(elevations: &[i16], work: &[u32], k: u32, low: u32, word: u32, m: usize) -> bool
+    requires { ⌜ length (now elevations) ≤ length (now work) ⌝ }
+    requires { ⌜ 0 < k ⌝ }
+    requires { ⌜ 256 ≤ word ⌝ }
+    requires { ⌜ (word ≡ 256 → low ≡ 1) ⌝ }
+    requires { ⌜ (256 < word → low + 1 ≡ word) ⌝ }
+    ensures { λ r. ⌜ (r ≡ true → (at (now (elevations .entry)) m ≡ levelOf k)
+        × ((suc (wordLevel (getD (now (work .entry)) m 0)) ≡ wordLevel word) × (0 < wordLevel (getD (now (work .entry)) m 0)))) ⌝ }
+    ensures { λ r. ⌜ (r ≡ false → at (now (elevations .entry)) m ≡ levelOf k
+        → suc (wordLevel (getD (now (work .entry)) m 0)) ≡ wordLevel word → 0 < wordLevel (getD (now (work .entry)) m 0) → ⊥) ⌝ }
+{
+    if m >= elevations.len() {
+        return false;
+    }
+    is_below(elevations, work, k, low, word, m)
+}
+
 // The sum with the code of the position `p`, if it is a member.
 fn with_code(sum: usize, p: usize, chosen: bool) -> usize
     requires { ⌜ p < 8 ⌝ }
@@ -232,6 +261,73 @@ fn with_code(sum: usize, p: usize, chosen: bool) -> usize
 {
     if chosen {
         return sum + cells::Direction::code(p) as usize;
+    }
+    sum
+}
+
+// `flat_sum` for a cell within the border; `k` is its key, and `low` the lowest word of the level below that of `word`.
+fn flat_sum_inner(
+    g: Grid,
+    offsets: &[usize; 8],
+    elevations: &[i16],
+    work: &[u32],
+    cell: usize,
+    k: u32,
+    low: u32,
+    word: u32,
+) -> usize
+    requires { ⌜ length (now elevations) ≡ size g ⌝ }
+    requires { ⌜ size g < 2 ^ 24 ⌝ }
+    requires { ⌜ size g ≤ length (now work) ⌝ }
+    requires { ⌜ cell < size g ⌝ }
+    requires { ⌜ at (now elevations) cell ≡ levelOf k ⌝ }
+    requires { ⌜ word ≡ getD (now work) cell 0 ⌝ }
+    requires { ⌜ 0 < k ⌝ }
+    requires { ⌜ 256 ≤ word ⌝ }
+    requires { ⌜ (word ≡ 256 → low ≡ 1) × (256 < word → low + 1 ≡ word) ⌝ }
+    requires { ⌜ Inner g (cell / g .cols) (cell % g .cols) ⌝ }
+    requires { ⌜ Offsets (g .cols) (now offsets) ⌝ }
+    ensures { λ r. ⌜ r ≡ flatSum g (now (elevations .entry)) (levelsIn g (now (work .entry))) cell ⌝ }
+    ensures { λ r. ⌜ r < 256 ⌝ }
+{
+    let mut sum: usize = 0;
+    let mut p: usize = 0;
+    while p < 8 {
+        let m = cells::beside(g, offsets, cell, p);
+        sum = with_code(sum, p, is_below(elevations, work, k, low, word, m));
+        p += 1;
+    }
+    sum
+}
+
+// The same for any cell: off the sheet there is no equal neighbour.
+fn flat_sum_border(
+    g: Grid,
+    elevations: &[i16],
+    work: &[u32],
+    cell: usize,
+    k: u32,
+    low: u32,
+    word: u32,
+) -> usize
+    requires { ⌜ length (now elevations) ≡ size g ⌝ }
+    requires { ⌜ size g < 2 ^ 24 ⌝ }
+    requires { ⌜ size g ≤ length (now work) ⌝ }
+    requires { ⌜ cell < size g ⌝ }
+    requires { ⌜ at (now elevations) cell ≡ levelOf k ⌝ }
+    requires { ⌜ word ≡ getD (now work) cell 0 ⌝ }
+    requires { ⌜ 0 < k ⌝ }
+    requires { ⌜ 256 ≤ word ⌝ }
+    requires { ⌜ (word ≡ 256 → low ≡ 1) × (256 < word → low + 1 ≡ word) ⌝ }
+    ensures { λ r. ⌜ r ≡ flatSum g (now (elevations .entry)) (levelsIn g (now (work .entry))) cell ⌝ }
+    ensures { λ r. ⌜ r < 256 ⌝ }
+{
+    let mut sum: usize = 0;
+    let mut p: usize = 0;
+    while p < 8 {
+        let m = cells::neighbour(g, cell, p);
+        sum = with_code(sum, p, is_below_any(elevations, work, k, low, word, m));
+        p += 1;
     }
     sum
 }
@@ -249,7 +345,7 @@ fn flat_sum(
     requires { ⌜ size g < 2 ^ 24 ⌝ }
     requires { ⌜ size g ≤ length (now work) ⌝ }
     requires { ⌜ cell < size g ⌝ }
-    requires { ⌜ Inner g (cell / g .cols) (cell % g .cols) ⌝ }
+    requires { ⌜ (g .sides ≡ 0 → Inner g (cell / g .cols) (cell % g .cols)) ⌝ }
     requires { ⌜ isData (now elevations) cell ≡ true ⌝ }
     requires { ⌜ word ≡ getD (now work) cell 0 ⌝ }
     requires { ⌜ 256 ≤ word ⌝ }
@@ -259,14 +355,10 @@ fn flat_sum(
 {
     let k = cells::key(elevations[cell]);
     let low = lowest_below(word);
-    let mut sum: usize = 0;
-    let mut p: usize = 0;
-    while p < 8 {
-        let m = cells::beside(g, offsets, cell, p);
-        sum = with_code(sum, p, is_below(elevations, work, k, low, word, m));
-        p += 1;
+    if levels::is_within(g, cell) {
+        return flat_sum_inner(g, offsets, elevations, work, cell, k, low, word);
     }
-    sum
+    flat_sum_border(g, elevations, work, cell, k, low, word)
 }
 
 // The code of a cell of a sheet on which every data cell has a level.

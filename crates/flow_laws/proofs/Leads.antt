@@ -176,7 +176,7 @@ module _ (g : Grid) (e : List ℤ) (len : length e ≡ size g) (l : List ℕ) (C
       record {
         position = small;
         has-code = position-has-code (directions g e) c small;
-        to-none = rw here (not-is-true _ (sym (leaves-no-data g e len c (w .0)) ∙ w .2));
+        to-none = rw here (leaves-no-data g e len c (w .0) (w .2));
       }
 
   -- the receiver of an outlet has no code, so the route ends at the outlet

@@ -7,13 +7,14 @@ use lib.ListN.{getD}
 use lib.IntN.{ℤ, pos, negsuc}
 use Rattle.grid.specs.Below.{table}
 use Rattle.grid.specs.declared.Answer.{Answer}
-use Rattle.grid.specs.Sheet.{gridOf, eqZ}
+use Rattle.grid.specs.declared.Grid.{Grid}
+use Rattle.grid.specs.Sheet.{gridOf, closedGrid, eqZ}
 use Rattle.grid.specs.Fill.{filled}
 use Rattle.grid.specs.Directions.{choice, directions}
 use Rattle.grid.specs.Routes.{counts, labels}
 use Rattle.grid.specs.Ponds.{ponds, pondCount, pondLevel, pondCells, pondVolume}
 use Rattle.grid.specs.Culvert.{opened}
-use Rattle.grid.specs.Checks.{fillCheck, drainCheck, codesCheck, pondsCheck, culvertCheck}
+use Rattle.grid.specs.Checks.{accepted, askSize, fillCheck, directionsCheck, drainCheck, codesCheck, pondsCheck, culvertCheck}
 use Rattle.grid.specs.Frames.{programText}
 
 pub data Case : Type 0 where
@@ -132,6 +133,17 @@ opened-bank =
     pos 9 ∷ pos 2 ∷ pos 2 ∷ pos 3 ∷ pos 1 ∷
     pos 9 ∷ pos 9 ∷ pos 9 ∷ pos 9 ∷ pos 9 ∷ []
 
+-- 3 by 4: a valley of 2, 4, 6, 5 from west to east between banks of 8
+cut : List ℤ
+cut =
+    pos 8 ∷ pos 8 ∷ pos 8 ∷ pos 8 ∷
+    pos 2 ∷ pos 4 ∷ pos 6 ∷ pos 5 ∷
+    pos 8 ∷ pos 8 ∷ pos 8 ∷ pos 8 ∷ []
+
+-- with all sides closed but the east one
+eastward : Grid
+eastward = closedGrid 3 4 13
+
 numberAndPlace : Answer → List ℕ
 numberAndPlace a = a .number ∷ a .place ∷ []
 
@@ -146,11 +158,15 @@ basinCodes = directions (gridOf 5 5) basin
 openedCodes : List ℕ
 openedCodes = directions (gridOf 3 5) (filled (gridOf 3 5) opened-bank)
 
+eastwardCodes : List ℕ
+unfolding eastward
+eastwardCodes = directions eastward (filled eastward cut)
+
 -- ---- the table
 
 unfoldable pub knownGround : List Case
-unfolding printed-input printed-output voids between middle basin hole pools poolNumbers bank opened-bank numberAndPlace culvertIn
-    basinCodes openedCodes
+unfolding printed-input printed-output voids between middle basin hole pools poolNumbers bank opened-bank cut eastward numberAndPlace
+    culvertIn basinCodes openedCodes eastwardCodes
 knownGround =
     -- P1: the printed example, from text to text
     numbers (programText printed-input) printed-output
@@ -160,7 +176,7 @@ knownGround =
     ∷ numbers (counts (gridOf 1 1) (32 ∷ [])) (0 ∷ [])
     ∷ numbers (labels (gridOf 1 1) (32 ∷ [])) (1 ∷ [])
     -- P3: all voids: accepted, codes, counts, labels 0
-    ∷ numbers ((drainCheck (gridOf 2 3) 6 6 6 6 6 24) .number ∷ []) (0 ∷ [])
+    ∷ numbers ((drainCheck (gridOf 2 3) voids 6 6 6 6 24) .number ∷ []) (0 ∷ [])
     ∷ elevations (filled (gridOf 2 3) voids) voids
     ∷ numbers (directions (gridOf 2 3) voids) (0 ∷ 0 ∷ 0 ∷ 0 ∷ 0 ∷ 0 ∷ [])
     ∷ numbers (counts (gridOf 2 3) (0 ∷ 0 ∷ 0 ∷ 0 ∷ 0 ∷ 0 ∷ [])) (0 ∷ 0 ∷ 0 ∷ 0 ∷ 0 ∷ 0 ∷ [])
@@ -203,8 +219,32 @@ knownGround =
     ∷ numbers (culvertIn 15 (negsuc 32767) 60) (15 ∷ 15 ∷ [])
     ∷ numbers (numberAndPlace (culvertCheck (gridOf 5 5) hole 12 (negsuc 32766) 25 25 25 25 100)) (15 ∷ 12 ∷ [])
     ∷ numbers (culvertIn 15 (negsuc 32767) 59) (9 ∷ 0 ∷ [])
+    -- closed sides: the four results where the east side alone is open, with a lake against the west side
+    ∷ elevations (filled eastward cut)
+    (pos 8 ∷ pos 8 ∷ pos 8 ∷ pos 8 ∷
+    pos 6 ∷ pos 6 ∷ pos 6 ∷ pos 5 ∷
+    pos 8 ∷ pos 8 ∷ pos 8 ∷ pos 8 ∷ [])
+    ∷ numbers eastwardCodes (8 ∷ 8 ∷ 4 ∷ 2 ∷ 2 ∷ 2 ∷ 2 ∷ 2 ∷ 128 ∷ 128 ∷ 1 ∷ 2 ∷ [])
+    ∷ numbers (counts eastward eastwardCodes) (0 ∷ 0 ∷ 0 ∷ 0 ∷ 2 ∷ 5 ∷ 6 ∷ 9 ∷ 0 ∷ 0 ∷ 0 ∷ 0 ∷ [])
+    ∷ numbers (labels eastward eastwardCodes) (8 ∷ 8 ∷ 8 ∷ 4 ∷ 8 ∷ 8 ∷ 8 ∷ 8 ∷ 8 ∷ 8 ∷ 8 ∷ 12 ∷ [])
+    -- one cell leaves by the first open side; no corner step leads off the sheet; a void on a closed side is outside
+    ∷ numbers (directions (closedGrid 1 1 1) (pos 7 ∷ [])) (2 ∷ [])
+    ∷ numbers (directions (closedGrid 1 1 3) (pos 7 ∷ [])) (128 ∷ [])
+    ∷ numbers (directions (closedGrid 1 1 7) (pos 7 ∷ [])) (8 ∷ [])
+    ∷ numbers (directions (closedGrid 2 2 11) (pos 7 ∷ pos 7 ∷ pos 7 ∷ pos 7 ∷ [])) (128 ∷ 128 ∷ 1 ∷ 64 ∷ [])
+    ∷ numbers (directions (closedGrid 2 2 15) (pos 7 ∷ pos 7 ∷ negsuc 32767 ∷ pos 7 ∷ [])) (8 ∷ 16 ∷ 0 ∷ 32 ∷ [])
+    -- no side open and no void: 18 at the first cell, before 10 and 14 and after 15 and 16; 16 is no number of sides: 17, after 6, before 7
+    ∷ numbers (numberAndPlace (fillCheck (closedGrid 3 4 15) cut 12 48)) (18 ∷ 0 ∷ [])
+    ∷ numbers (numberAndPlace (directionsCheck (closedGrid 3 4 15) cut 12 48)) (18 ∷ 0 ∷ [])
+    ∷ numbers (numberAndPlace (drainCheck (closedGrid 3 4 15) cut 12 12 12 12 48)) (18 ∷ 0 ∷ [])
+    ∷ numbers (numberAndPlace (pondsCheck (closedGrid 3 4 15) cut 12 0 0 0 48)) (18 ∷ 0 ∷ [])
+    ∷ numbers (numberAndPlace (culvertCheck (closedGrid 3 4 15) cut 7 (pos 4) 12 12 12 12 48)) (18 ∷ 0 ∷ [])
+    ∷ numbers (numberAndPlace (culvertCheck (closedGrid 3 4 15) cut 12 (pos 4) 12 12 12 12 48)) (15 ∷ 12 ∷ [])
+    ∷ numbers (numberAndPlace (culvertCheck (closedGrid 3 4 15) cut 7 (pos 6) 12 12 12 12 48)) (16 ∷ 7 ∷ [])
+    ∷ numbers (numberAndPlace (fillCheck (closedGrid 3 5 16) cut 0 0)) (17 ∷ 0 ∷ [])
+    ∷ numbers (numberAndPlace (fillCheck (closedGrid 3 0 16) cut 0 0)) (6 ∷ 0 ∷ [])
     -- "Rows 4,000 passes, 4,001 gets 5. Codes 2 and 32 side by side, facing each other, get 12"
-    ∷ numbers ((fillCheck (gridOf 4000 1) 4000 4000 16000) .number ∷ []) (0 ∷ [])
-    ∷ numbers ((fillCheck (gridOf 4001 1) 4001 4001 16004) .number ∷ []) (5 ∷ [])
+    ∷ numbers ((askSize (gridOf 4000 1) accepted) .number ∷ []) (0 ∷ [])
+    ∷ numbers ((askSize (gridOf 4001 1) accepted) .number ∷ []) (5 ∷ [])
     ∷ numbers ((codesCheck (gridOf 1 2) (2 ∷ 32 ∷ []) 2 8) .number ∷ []) (12 ∷ [])
     ∷ []

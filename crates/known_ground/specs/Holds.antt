@@ -3,7 +3,7 @@ use mathlib.Core.Path.{_≡_, refl}
 use mathlib.Core.Bool.{true}
 use Rattle.grid.specs.Below.{table, anyBelow, sumBelow, countBelow, firstBelow, joinBelow, has, lastOf}
 use Rattle.grid.specs.Sheet.{void, top, eqZ, lower, higher, isData, positionOf, moved, cellAt, neighbour}
-use Rattle.grid.specs.Outlet.{leavesAt, isOutlet, outletCode}
+use Rattle.grid.specs.Outlet.{isOpen, leavesAt, isOutlet, outletCode, drained, firstStranded}
 use Rattle.grid.specs.Fill.{startAt, lowestTo, passAt, passes, filled}
 use Rattle.grid.specs.Directions.{dropTo, squaredDistance, beats, beaten, isSteepest, steepestSum, member, score, bestOf, choice, isEqual}
 use Rattle.grid.specs.Directions.{hasDescent, isLevelZero, levelPassAt, levelPasses, levels, flatSum, directionAt, directions}
@@ -12,19 +12,20 @@ use Rattle.grid.specs.Routes.{follow, endsBy, hasCode, receiver, countAt, label
 use Rattle.grid.specs.Joined.{joinPass, joinPasses, joined}
 use Rattle.grid.specs.Ponds.{isWet, pondOf, lowestCell, isLowest, ponds, pondCount, natural, depth, pondLevel, pondCells, pondVolume}
 use Rattle.grid.specs.Culvert.{opened, isLevelFor}
-use Rattle.grid.specs.Checks.{inRange, askSize, allHave, askSheets, askWork, askCodes, askCulvert, fillCheck, codesCheck, drainCheck}
-use Rattle.grid.specs.Checks.{pondsCheck, culvertCheck}
+use Rattle.grid.specs.Checks.{inRange, askSize, allHave, askLengths, askSides, askSheets, askOutlets, askWork, askReach, askCodes}
+use Rattle.grid.specs.Checks.{askCulvert, fillCheck, directionsCheck, codesCheck, drainCheck, pondsCheck, culvertCheck}
 use Rattle.grid.specs.Frames.{hexValue, isTextByte, number4, textGrid, endsLine, isShaped, firstBadByte, readCheck, fromTwos, toTwos}
 use Rattle.grid.specs.Frames.{textSheet, upperDigit, hexText, sheetText, headerText, resultText, refusalText, drainText, programText}
 use Rattle.known_ground.specs.Cases.{allHold, knownGround}
 
 pub known-ground : allHold knownGround ≡ true
 unfolding allHold knownGround table anyBelow sumBelow countBelow firstBelow joinBelow has lastOf void top eqZ lower higher isData
-    positionOf moved cellAt neighbour leavesAt isOutlet outletCode startAt lowestTo passAt passes filled dropTo squaredDistance beats
+    positionOf moved cellAt neighbour isOpen leavesAt isOutlet outletCode drained firstStranded startAt lowestTo passAt passes filled dropTo squaredDistance beats
     beaten isSteepest steepestSum member score bestOf choice isEqual hasDescent isLevelZero levelPassAt levelPasses levels flatSum
     directionAt directions firstUnlevelled follow endsBy hasCode receiver countAt labelAt counts labels firstBadCode firstEndless joinPass
     joinPasses joined isWet pondOf lowestCell isLowest ponds pondCount natural depth pondLevel pondCells pondVolume opened isLevelFor
-    inRange askSize allHave askSheets askWork askCodes fillCheck codesCheck drainCheck pondsCheck askCulvert culvertCheck hexValue
+    inRange askSize allHave askLengths askSides askSheets askOutlets askWork askReach askCodes fillCheck directionsCheck codesCheck
+    drainCheck pondsCheck askCulvert culvertCheck hexValue
     isTextByte number4 textGrid endsLine isShaped firstBadByte readCheck fromTwos toTwos textSheet upperDigit hexText sheetText headerText
     resultText refusalText drainText programText
 known-ground = refl

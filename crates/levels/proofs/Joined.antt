@@ -1,7 +1,7 @@
 -- The look for cells of level 1, one cell after the other.
 use mathlib.Core.Path.{_≡_, refl, sym, _∙_, ap, subst}
 use mathlib.Core.Bool.{Bool, true, false, cond}
-use mathlib.Core.Logic.{⊎-elim}
+use mathlib.Core.Logic.{inl, ⊎-elim}
 use mathlib.Core.List.{List, []}
 use Prim.Native.Nat.{ℕ, suc, _+_, _/_, _%_, _≤_, _<_}
 use native.Mathlib.Omega.{arith}
@@ -21,7 +21,7 @@ use Rattle.flow_laws.proofs.Equals.{equal-on, equal-back}
 use Rattle.flow_laws.proofs.Leads.{zero-code-range}
 use Rattle.flow_laws.proofs.Words.{level-none, level-one, level-more, level-here, word-some, word-other}
 use Rattle.flow_laws.proofs.Words.{queue-first, queue-last, marked, searching-room}
-use Rattle.levels.proofs.Within.{other-within}
+use Rattle.levels.proofs.Within.{other-flat, flat-within}
 
 -- before the first cell
 module _ (g : Grid) (e : List ℤ) (half : ℕ) (work : List ℕ) (S : Seeded g e work) where
@@ -98,11 +98,11 @@ module _ (g : Grid) (e : List ℤ) (len : length e ≡ size g) (half : ℕ) (wor
       let k = equal-back g e len d cell b in
       absurd (f (k .position) (k .eight) (k .equal) (ap (levelIn (size g) work) (k .there) ∙ q)))
 
-  -- a data cell without a word lies within the border
-  pub joining-within : getD work cell 0 ≡ 0 → isData e cell ≡ true → Inner g (cell / g .cols) (cell % g .cols)
-  joining-within none d =
+  -- where every side is open, a data cell without a word lies within the border
+  pub joining-within : getD work cell 0 ≡ 0 → isData e cell ≡ true → g .sides ≡ 0 → Inner g (cell / g .cols) (cell % g .cols)
+  joining-within none d sides =
       let z : levelIn (size g) work cell ≡ 0 = level-none _ (getD-take (size g) work cell 0 on ∙ none) in
-      other-within g e len cell on d half work (J .searching) (λ one. omega arith)
+      flat-within g e cell on d (other-flat g e cell on half work (J .searching) (λ one. omega arith)) (inl sides)
 
   pub joining-room : getD work cell 0 ≡ 0 → tail < size g
   joining-room z = searching-room g e len half work (J .searching) cell on z

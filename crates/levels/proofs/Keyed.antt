@@ -19,7 +19,7 @@ use Rattle.grid.specs.Sheet.{size, void, at, isData, eqZ, neighbour}
 use Rattle.grid.specs.Directions.{isEqual}
 use Rattle.grid_laws.proofs.Tests.{test, true-false, not-of-false}
 use Rattle.grid_laws.proofs.Order.{eqZ-eq}
-use Rattle.grid_laws.proofs.Cells.{on-sheet}
+use Rattle.grid_laws.proofs.Cells.{off-no-data, on-sheet}
 use Rattle.cells.specs.Keys.{keyOf, levelOf}
 use Rattle.cells.proofs.Keys.{Known, known-read, level-key, key-level, key-void, zero-no-data}
 use Rattle.flow_laws.specs.Words.{levelIn}
@@ -46,6 +46,10 @@ height-data e c k h p = ⊎-elim (λ t. absurd (zero t)) not-of-false (test (eqZ
   where
     zero : eqZ (at e c) void ≡ true → ⊥
     zero t = let q : k ≡ 0 = sym (key-level k) ∙ ap keyOf (sym h ∙ eqZ-eq (at e c) void t) ∙ key-void in omega arith
+
+-- off the sheet there is none
+pub off-height : (e : List ℤ) (c k : ℕ) → length e ≤ c → 0 < k → at e c ≡ levelOf k → ⊥
+off-height e c k off p h = true-false (height-data e c k h p) (off-no-data e c off)
 
 pub data-positive : (e : List ℤ) (c r : ℕ) → r ≡ keyOf (at e c) → void ≤ℤ at e c → isData e c ≡ true → 0 < r
 data-positive e c r q v d = go (decLt 0 r)

@@ -1,7 +1,7 @@
 -- The look at the eight neighbours of the queue's first.
 use mathlib.Core.Path.{_≡_, refl, sym, _∙_, ap, subst}
-use mathlib.Core.Bool.{Bool, true, false}
-use mathlib.Core.Logic.{inl, inr, ⊎-elim}
+use mathlib.Core.Bool.{true, false, not}
+use mathlib.Core.Logic.{_⊎_, inl, inr, ⊎-elim}
 use mathlib.Core.List.{List}
 use Prim.Native.Nat.{ℕ, suc, _+_, _/_, _%_, _≤_, _<_}
 use native.Mathlib.Omega.{arith}
@@ -14,42 +14,25 @@ use Rattle.grid.specs.Directions.{isEqual, isLevelZero}
 use Rattle.grid_laws.proofs.Cells.{on-sheet}
 use Rattle.cells.specs.Steps.{Inner}
 use Rattle.flow_laws.specs.Search.{Equal}
-use Rattle.flow_laws.specs.Words.{wordLevel, levelIn, queueIn, Searching}
+use Rattle.flow_laws.specs.Words.{wordLevel, levelIn, Searching}
 use Rattle.flow_laws.proofs.Search.{last?, popped}
-use Rattle.flow_laws.proofs.Equals.{is-equal, equal-height, equal-on, equal-back}
+use Rattle.flow_laws.proofs.Equals.{is-equal, equal-on, equal-back}
 use Rattle.flow_laws.proofs.Agree.{equal-on-sheet}
 use Rattle.flow_laws.proofs.Words.{level-none, level-up, level-here, word-more, word-some, word-other}
 use Rattle.flow_laws.proofs.Words.{queue-first, marked, searching-room}
-use Rattle.levels.specs.Touched.{Touched}
-use Rattle.levels.proofs.Within.{other-flat, other-within, within-data, flat-alike}
+use Rattle.levels.specs.Touched.{TouchedAny}
+use Rattle.levels.specs.Spreading.{Spreading}
+use Rattle.levels.proofs.Within.{other-flat, flat-within, flat-alike}
 
 -- cells of one elevation are data or void together
 pub alike-data : (e : List ℤ) (c d : ℕ) → at e d ≡ at e c → isData e c ≡ true → isData e d ≡ true
 unfolding isData
-alike-data e c d q t = ap (λ (z : ℤ). mathlib.Core.Bool.not (eqZ z void)) q ∙ t
-
--- the positions before p of the queue's first, x, are looked at; what is marked gets `word`
-pub record Spreading (g : Grid) (e : List ℤ) (half : ℕ) (work : List ℕ) (head tail x word p : ℕ) : Type 0 where
-  pub searching : Searching g e half work (size g) head tail
-  pub more : head < tail
-  pub first : queueIn half work head ≡ x
-  pub high : getD (take (size g) work) x 0 + 1 ≡ word
-  pub done : (q : ℕ) → q < p → isEqual g e x q ≡ true → 0 < levelIn (size g) work (neighbour g x q)
+alike-data e c d q t = ap (λ (z : ℤ). not (eqZ z void)) q ∙ t
 
 module _ (g : Grid) (e : List ℤ) (len : length e ≡ size g) (half : ℕ) (work : List ℕ) (head tail : ℕ) where
   -- the queue's first
   pub first-on : Searching g e half work (size g) head tail → head < tail → getD work (half + head) 0 < size g
   first-on S h = S .search .queued head h .0
-
-  pub first-data : Searching g e half work (size g) head tail → head < tail → isData e (getD work (half + head) 0) ≡ true
-  first-data S h = let q = S .search .queued head h in S .search .from-lower (getD work (half + head) 0) (q .0) (q .1) .1 .from-data
-
-  pub first-within : Searching g e half work (size g) head tail → head < tail
-      → Inner g (getD work (half + head) 0 / g .cols) (getD work (half + head) 0 % g .cols)
-  first-within S h =
-      let q = S .search .queued head h in
-      let high = q .1 in
-      other-within g e len (getD work (half + head) 0) (q .0) (first-data S h) half work S (λ one. omega arith)
 
   pub spreading-none : Searching g e half work (size g) head tail → head < tail
       → Spreading g e half work head tail (getD work (half + head) 0) (getD work (getD work (half + head) 0) 0 + 1) 0
@@ -63,7 +46,7 @@ module _ (g : Grid) (e : List ℤ) (len : length e ≡ size g) (half : ℕ) (wor
       }
 
   module _ (x word p : ℕ) (P : Spreading g e half work head tail x word p) where
-    x-on : x < size g
+    pub x-on : x < size g
     x-on = rw (P .first) at (P .searching .search .queued head (P .more) .0)
 
     x-high : 1 < levelIn (size g) work x
@@ -72,8 +55,18 @@ module _ (g : Grid) (e : List ℤ) (len : length e ≡ size g) (half : ℕ) (wor
     x-data : isData e x ≡ true
     x-data = P .searching .search .from-lower x x-on x-high .1 .from-data
 
-    pub spreading-passed : (at e (neighbour g x p) ≡ at e x → 0 < getD work (neighbour g x p) 0)
-        → Spreading g e half work head tail x word (p + 1)
+    x-flat : isLevelZero g e x ≡ false
+    x-flat = other-flat g e x x-on half work (P .searching) (λ one. let h = x-high in omega arith)
+
+    -- what `is_within` says serves
+    pub x-within : (g .sides ≡ 0) ⊎ Inner g (x / g .cols) (x % g .cols) → Inner g (x / g .cols) (x % g .cols)
+    x-within w = flat-within g e x x-on x-data x-flat w
+
+    -- there is room for a cell without a word
+    pub spreading-room : half + size g ≤ length work → (m : ℕ) → m < size g → getD work m 0 ≡ 0 → half + tail < length work
+    spreading-room fits m on none = let r = searching-room g e len half work (P .searching) m on none in omega arith
+
+    spreading-passed : (isEqual g e x p ≡ true → 0 < getD work (neighbour g x p) 0) → Spreading g e half work head tail x word (p + 1)
     spreading-passed f =
         record {
           searching = P .searching;
@@ -86,7 +79,7 @@ module _ (g : Grid) (e : List ℤ) (len : length e ≡ size g) (half : ℕ) (wor
         here : isEqual g e x p ≡ true → 0 < levelIn (size g) work (neighbour g x p)
         here t =
             let on = equal-on-sheet g e len x p t in
-            word-some _ (rw (sym (getD-take (size g) work (neighbour g x p) 0 on)) at (f (equal-height g e x p t)))
+            word-some _ (rw (sym (getD-take (size g) work (neighbour g x p) 0 on)) at (f t))
 
     module _ (hn : size g ≤ half) (hl : half + size g ≤ length work) (hp : p < 8) (same : at e (neighbour g x p) ≡ at e x)
         (none : getD work (neighbour g x p) 0 ≡ 0) where
@@ -122,7 +115,7 @@ module _ (g : Grid) (e : List ℤ) (len : length e ≡ size g) (half : ℕ) (wor
       different : (y : ℕ) → 0 < levelIn (size g) work y → y ≡ neighbour g x p → ⊥
       different y h q = let b = no-level in let r = ap (levelIn (size g) work) q in omega arith
 
-      pub spreading-marked : Spreading g e half after head (tail + 1) x word (p + 1)
+      spreading-marked : Spreading g e half after head (tail + 1) x word (p + 1)
       spreading-marked =
           record {
             searching =
@@ -146,21 +139,21 @@ module _ (g : Grid) (e : List ℤ) (len : length e ≡ size g) (half : ℕ) (wor
 
     -- a neighbour without a level is equal
     unmarked-alike : p < 8 → neighbour g x p < size g → getD work (neighbour g x p) 0 ≡ 0 → at e (neighbour g x p) ≡ at e x
-    unmarked-alike hp on none = flat-alike g e len x p x-on hp on x-data (within-data g e len x p x-on x-data hp x-flat) x-flat m-flat
+    unmarked-alike hp on none = flat-alike g e x p x-on hp on x-data x-flat m-flat
       where
-        x-flat : isLevelZero g e x ≡ false
-        x-flat = other-flat g e x x-on half work (P .searching) (λ one. let h = x-high in omega arith)
-
         m-flat : isLevelZero g e (neighbour g x p) ≡ false
         m-flat =
             let z = level-none _ (getD-take (size g) work (neighbour g x p) 0 on ∙ none) in
             other-flat g e (neighbour g x p) on half work (P .searching) (λ one. omega arith)
 
     pub spreading-more : {work′ : List ℕ} {m r : ℕ} → size g ≤ half → half + size g ≤ length work → p < 8
-        → m ≡ neighbour g x p → m < size g → Touched half work work′ word tail m r → Spreading g e half work′ head r x word (p + 1)
-    spreading-more {work′} {m} {r} hn hl hp q on (inl (a, b, f)) = rw (a, b) (spreading-passed (λ s. rw q at f))
-    spreading-more {work′} {m} {r} hn hl hp q on (inr (a, b, z)) =
+        → m ≡ neighbour g x p → TouchedAny (size g) half work work′ word tail m r → Spreading g e half work′ head r x word (p + 1)
+    spreading-more {work′} {m} {r} hn hl hp q (inl (on, inl (a, b, f))) = rw (a, b) (spreading-passed (λ t. rw q at f))
+    spreading-more {work′} {m} {r} hn hl hp q (inl (on, inr (a, b, z))) =
         rw (a, b, q) (spreading-marked hn hl hp (unmarked-alike hp (rw q at on) (rw q at z)) (rw q at z))
+    spreading-more {work′} {m} {r} hn hl hp q (inr (off, a, b)) =
+        -- no equal neighbour lies off the sheet
+        rw (a, b) (spreading-passed (λ t. let on = equal-on-sheet g e len x p t in let z : ⊥ = omega arith in absurd z))
 
     pub spreading-end : 8 ≤ p → Searching g e half work (size g) (head + 1) tail
     spreading-end h =

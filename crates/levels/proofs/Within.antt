@@ -1,11 +1,11 @@
--- A data cell that is not at level 0 lies within the border: there it would be an outlet. Two such neighbours are equal: the higher would
--- have a drop.
+-- A data cell that is not at level 0 is no outlet: where every side is open it lies within the border, and each of its neighbours on the
+-- sheet holds data. Two such neighbours are equal: the higher would have a drop.
 use mathlib.Core.Path.{_≡_, sym, subst}
 use mathlib.Core.Bool.{true, false, _||_}
-use mathlib.Core.Logic.{⊎-elim}
+use mathlib.Core.Logic.{_⊎_, inl, inr, ⊎-elim}
 use mathlib.Core.List.{List}
 use Prim.Native.Nat.{ℕ, _/_, _%_, _<_}
-use lib.ListN.{length}
+use native.Mathlib.Omega.{arith}
 use lib.IntN.{ℤ}
 use lib.Signed.{_≤ℤ_}
 use Rattle.grid.specs.declared.Grid.{Grid}
@@ -26,25 +26,21 @@ pub other-flat : (g : Grid) (e : List ℤ) (c : ℕ) → c < size g → (half : 
     → Searching g e half work seen head tail → (levelIn (size g) work c ≡ 1 → ⊥) → isLevelZero g e c ≡ false
 other-flat g e c on half work S f = ⊎-elim (λ z. absurd (f (S .search .zero-has c on z))) (λ z. z) (test (isLevelZero g e c))
 
-module _ (g : Grid) (e : List ℤ) (len : length e ≡ size g) (c : ℕ) (on : c < size g) (d : isData e c ≡ true) where
-  pub flat-within : isLevelZero g e c ≡ false → Inner g (c / g .cols) (c % g .cols)
+module _ (g : Grid) (e : List ℤ) where
+  flat-no-outlet : (c : ℕ) → isData e c ≡ true → isLevelZero g e c ≡ false → isOutlet g e c ≡ false
   unfolding isLevelZero
-  flat-within z =
-      let rest = and-rest-false (isData e c) (isOutlet g e c || hasDescent g e c) d z in
-      outlet-free g c on e len d (or-none-left (isOutlet g e c) (hasDescent g e c) rest)
+  flat-no-outlet c d z =
+      or-none-left (isOutlet g e c) (hasDescent g e c) (and-rest-false (isData e c) (isOutlet g e c || hasDescent g e c) d z)
 
-  -- during the search
-  pub other-within : (half : ℕ) (work : List ℕ) {seen head tail : ℕ} → Searching g e half work seen head tail
-      → (levelIn (size g) work c ≡ 1 → ⊥) → Inner g (c / g .cols) (c % g .cols)
-  other-within half work S f = flat-within (other-flat g e c on half work S f)
+  -- what `is_within` says is all that is left to ask
+  pub flat-within : (c : ℕ) → c < size g → isData e c ≡ true → isLevelZero g e c ≡ false
+      → (g .sides ≡ 0) ⊎ Inner g (c / g .cols) (c % g .cols) → Inner g (c / g .cols) (c % g .cols)
+  flat-within c on d z (inl sides) = outlet-free g c on sides e d (flat-no-outlet c d z)
+  flat-within c on d z (inr inner) = inner
 
-module _ (g : Grid) (e : List ℤ) (len : length e ≡ size g) where
-  -- every neighbour of such a cell holds data
-  pub within-data : (c p : ℕ) → c < size g → isData e c ≡ true → p < 8 → isLevelZero g e c ≡ false → isData e (neighbour g c p) ≡ true
-  unfolding isLevelZero
-  within-data c p on d h z =
-      let rest = and-rest-false (isData e c) (isOutlet g e c || hasDescent g e c) d z in
-      inner-data g e len c p d (or-none-left (isOutlet g e c) (hasDescent g e c) rest) h
+  pub within-data : (c p : ℕ) → isData e c ≡ true → p < 8 → isLevelZero g e c ≡ false → neighbour g c p < size g
+      → isData e (neighbour g c p) ≡ true
+  within-data c p d h z there = inner-data g e c p d (flat-no-outlet c d z) h (λ q. let y : ⊥ = omega arith in absurd y)
 
   -- no neighbour of such a cell is lower
   not-lower : (c p : ℕ) → isData e c ≡ true → isLevelZero g e c ≡ false → p < 8 → isData e (neighbour g c p) ≡ true
@@ -55,10 +51,13 @@ module _ (g : Grid) (e : List ℤ) (len : length e ≡ size g) where
       ⊎-elim (λ l. l) (λ l. true-false (descends g e c p h n l) (or-none-right (isOutlet g e c) (hasDescent g e c) rest))
       (≤ℤ-or-< (at e c) (at e (neighbour g c p)))
 
-  pub flat-alike : (c p : ℕ) → c < size g → p < 8 → neighbour g c p < size g → isData e c ≡ true → isData e (neighbour g c p) ≡ true
-      → isLevelZero g e c ≡ false → isLevelZero g e (neighbour g c p) ≡ false → at e (neighbour g c p) ≡ at e c
-  flat-alike c p on h there d n z y = ≤ℤ-antisym up (not-lower c p d z h n)
+  pub flat-alike : (c p : ℕ) → c < size g → p < 8 → neighbour g c p < size g → isData e c ≡ true → isLevelZero g e c ≡ false
+      → isLevelZero g e (neighbour g c p) ≡ false → at e (neighbour g c p) ≡ at e c
+  flat-alike c p on h there d z y = ≤ℤ-antisym up (not-lower c p d z h n)
     where
+      n : isData e (neighbour g c p) ≡ true
+      n = within-data c p d h z there
+
       back : neighbour g (neighbour g c p) (opposite p) ≡ c
       back = step-back g c p h on there
 

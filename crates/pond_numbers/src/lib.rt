@@ -92,13 +92,13 @@ fn number(g: Grid, elevations: &[i16], work: &mut [u32]) -> u32
     count
 }
 
-// From elevations to numbered ponds in the work buffer.
+// From the flood's words to numbered ponds in the work buffer.
 pub fn find(g: Grid, elevations: &[i16], work: &mut [u32]) -> u32
     requires { ⌜ Sizes g (now elevations) (length (now work)) ⌝ }
+    requires { ⌜ InRange (now elevations) ⌝ }
+    requires { ⌜ Words g (now elevations) (now work) ⌝ }
     ensures { λ r. ⌜ Numbered g (now (elevations .entry)) (now (work .exit)) (size g) r ⌝ }
 {
-    fill::load(elevations, work);
-    fill::fill_words(g, work);
     mark_wet(g, elevations, work);
     number(g, elevations, work)
 }

@@ -1,24 +1,29 @@
 -- What is left of the promise once 5 to 9 are answered.
 use mathlib.Core.Path.{_≡_}
 use mathlib.Core.List.{List}
-use Prim.Native.Nat.{ℕ, _≤_, _<_}
-use lib.Dec.{leb}
+use Prim.Native.Nat.{ℕ}
+use lib.Dec.{T, leb}
 use lib.ListN.{length}
 use lib.IntN.{ℤ}
 use Rattle.grid.specs.declared.Grid.{Grid}
+use Rattle.grid.specs.declared.Answer.{Answer}
 use Rattle.grid.specs.declared.Counted.{Counted}
 use Rattle.grid.specs.Fill.{filled}
 use Rattle.grid.specs.Ponds as P
 use Rattle.grid.specs.Checks.{ask, refusal, accepted, ofCounted, reported}
-use Rattle.grid.specs.Promises.{resultOf, pondColumn}
+use Rattle.grid.specs.Promises.{resultOf, upToNine, pondColumn}
 use Rattle.grid_laws.proofs.Cells.{InRange}
 
--- question 14 and the results
+-- question 14
+abbrev pub asked14 : Grid → List ℤ → List ℤ → Answer
+asked14 g e level = ask (leb (P.pondCount g e) (length level)) (refusal 14 (P.pondCount g e)) accepted
+
+-- the answer to what is asked, and the results
 pub record Settled (g : Grid) (e : List ℤ) (ponds₀ ponds₁ : List ℕ) (level₀ level₁ : List ℤ) (cells₀ cells₁ volume₀ volume₁ : List ℕ)
-    (r : Counted) : Type 0 where
+    (asked : Answer) (r : Counted) : Type 0 where
   pub range : InRange e
-  pub late : 0 < r .number → r .number ≤ 9 → ⊥
-  pub answer : ofCounted r ≡ ask (leb (P.pondCount g e) (length level₀)) (refusal 14 (P.pondCount g e)) accepted
+  pub late : T (upToNine (r .number)) → ⊥
+  pub answer : ofCounted r ≡ asked
   pub count : r .count ≡ reported (ofCounted r) (P.pondCount g e)
   pub ponds : ponds₁ ≡ resultOf (ofCounted r) (P.ponds g e) ponds₀
   pub level : level₁ ≡ pondColumn (ofCounted r) (P.pondCount g e) (P.pondLevel g (filled g e) (P.ponds g e)) level₀

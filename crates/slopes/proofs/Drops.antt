@@ -5,7 +5,7 @@ use mathlib.Core.Logic.{⊎-elim}
 use mathlib.Core.List.{List}
 use Prim.Native.Nat.{ℕ, zero, suc, _+_, _-_, _*_, _≤_, _<_}
 use native.Mathlib.Nat.{zero-mul}
-use native.Mathlib.Decide.{decLt}
+use native.Mathlib.Decide.{ℕ-discrete, decLt}
 use native.Mathlib.Omega.{arith}
 use lib.Dec.{eqb, ltb}
 use lib.ListN.{length, getD, set, length-set}
@@ -13,9 +13,9 @@ use lib.Seq.{getD-set-same, getD-set-other}
 use lib.IntN.{ℤ, pos, negsuc}
 use lib.Signed.{ltZ, _≤ℤ_}
 use borrow.Author.Count.{below-more}
-use borrow.Author.Tests.{ltb-true, lt-ltb, le-ltb, eqb-false}
+use borrow.Author.Tests.{ltb-true, lt-ltb, le-ltb, eq-eqb, ne-eqb, eqb-false}
 use Rattle.grid.specs.declared.Grid.{Grid}
-use Rattle.grid.specs.Below.{anyBelow}
+use Rattle.grid.specs.Below.{table, anyBelow}
 use Rattle.grid.specs.Sheet.{size, void, top, at, isData, neighbour, codeAt}
 use Rattle.grid.specs.Outlet.{leavesAt, isOutlet}
 use Rattle.grid.specs.Directions.{dropTo, squaredDistance, beats, beaten, isSteepest, steepestSum}
@@ -23,9 +23,9 @@ use Rattle.grid_laws.proofs.Tests.{test, and-false-left, cond-true, cond-false,
 use Rattle.grid_laws.proofs.Below.{any-ext, no-of-any, sum-ext, is-table, at-table}
 use Rattle.cells.specs.Keys.{keyOf}
 use Rattle.cells.specs.Around.{KnownTo}
-use Rattle.cells.proofs.Keys.{Known, data-key, zero-key, key-falls, key-drop, key-difference}
+use Rattle.cells.proofs.Keys.{Known, data-key, zero-key, zero-no-data, key-falls, key-drop, key-difference}
 use Rattle.cells.proofs.Codes.{leaves-key}
-use Rattle.slopes.specs.Steepest.{keysOf, squareAt, unbeaten, steepestIn, anyVoid, markedIn, innerSum}
+use Rattle.slopes.specs.Steepest.{keysOf, keyOr, edgeKeys, squareAt, unbeaten, steepestIn, anyVoid, markedIn, innerSum}
 
 -- the definition of the larger weighted drop, for drops that are not negative, is a comparison of products: what the function `beats`
 -- works out
@@ -41,15 +41,15 @@ up-loses g a b q p = refl
 nothing-over : (a d x : ℕ) → a ≡ 0 → ltb x (a * a * d) ≡ false
 nothing-over a d x e = le-ltb x (a * a * d) (rw e (rw (zero-mul d) (omega arith)))
 
--- ---- the keys around a cell, gathered position by position
-pub record Gathered (g : Grid) (e : List ℤ) (c : ℕ) (l : List ℕ) (p : ℕ) : Type 0 where
+-- ---- the keys around a cell, gathered position by position; `seen` is what is gathered of a key
+pub record Gathered (g : Grid) (e : List ℤ) (c : ℕ) (seen : ℕ → ℕ) (l : List ℕ) (p : ℕ) : Type 0 where
   pub within : p ≤ 8
   pub eight : length l ≡ 8
-  pub keys : (q : ℕ) → q < p → getD l q 0 ≡ keyOf (at e (neighbour g c q))
+  pub keys : (q : ℕ) → q < p → getD l q 0 ≡ seen (keyOf (at e (neighbour g c q)))
   pub known : KnownTo g e c p
 
-pub gathered-none : (g : Grid) (e : List ℤ) (c : ℕ) (l : List ℕ) → length l ≡ 8 → Gathered g e c l 0
-gathered-none g e c l h =
+pub gathered-none : (g : Grid) (e : List ℤ) (c : ℕ) (seen : ℕ → ℕ) (l : List ℕ) → length l ≡ 8 → Gathered g e c seen l 0
+gathered-none g e c seen l h =
     record {
       within = omega arith;
       eight = h;
@@ -57,50 +57,79 @@ gathered-none g e c l h =
       known = λ q b. let z : ⊥ = omega arith in absurd z;
     }
 
--- m is the neighbour at p, and k its key
-pub gathered-more : (g : Grid) (e : List ℤ) (c : ℕ) (l : List ℕ) (p m k : ℕ) → p < 8 → Gathered g e c l p → m ≡ neighbour g c p →
-    Known k (at e m) → Gathered g e c (set l p k) (p + 1)
-gathered-more g e c l p m k h G em K =
+-- m is the neighbour at p, k its key, and r what is gathered
+pub gathered-more : (g : Grid) (e : List ℤ) (c : ℕ) (seen : ℕ → ℕ) (l : List ℕ) (p m k r : ℕ) → p < 8 → Gathered g e c seen l p →
+    m ≡ neighbour g c p → Known k (at e m) → r ≡ seen k → Gathered g e c seen (set l p r) (p + 1)
+gathered-more g e c seen l p m k r h G em K er =
     record {
       within = omega arith;
-      eight = length-set l p k ∙ G .eight;
+      eight = length-set l p r ∙ G .eight;
       keys =
-          below-more (λ q. getD (set l p k) q 0 ≡ keyOf (at e (neighbour g c q))) p
-          (λ q b. getD-set-other l p q k 0 (λ e. let z : ⊥ = omega arith in absurd z) ∙ G .keys q b)
-          (getD-set-same l p k 0 (rw (G .eight) h) ∙ K .0 ∙ ap (λ (x : ℕ). keyOf (at e x)) em);
+          below-more (λ q. getD (set l p r) q 0 ≡ seen (keyOf (at e (neighbour g c q)))) p
+          (λ q b. getD-set-other l p q r 0 (λ e. let z : ⊥ = omega arith in absurd z) ∙ G .keys q b)
+          (getD-set-same l p r 0 (rw (G .eight) h) ∙ er ∙ ap seen (K .0 ∙ ap (λ (x : ℕ). keyOf (at e x)) em));
       known = below-more (λ q. (void ≤ℤ at e (neighbour g c q)) × (at e (neighbour g c q) ≤ℤ top)) p (G .known)
           (subst (λ (x : ℕ). (void ≤ℤ at e x) × (at e x ≤ℤ top)) em (K .1 .1));
     }
 
-pub gathered-all : (g : Grid) (e : List ℤ) (c : ℕ) (l : List ℕ) → Gathered g e c l 8 → l ≡ keysOf g e c
+pub gathered-all : (g : Grid) (e : List ℤ) (c : ℕ) (seen : ℕ → ℕ) (l : List ℕ) → Gathered g e c seen l 8 →
+    l ≡ table 8 (λ p. seen (keyOf (at e (neighbour g c p))))
+gathered-all g e c seen l G = is-table 8 (λ p. seen (keyOf (at e (neighbour g c p)))) l 0 (G .eight) (G .keys)
+
+pub keys-all : (g : Grid) (e : List ℤ) (c : ℕ) (l : List ℕ) → Gathered g e c (λ k. k) l 8 → l ≡ keysOf g e c
 unfolding keysOf
-gathered-all g e c l G = is-table 8 (λ p. keyOf (at e (neighbour g c p))) l 0 (G .eight) (G .keys)
+keys-all g e c l G = gathered-all g e c (λ k. k) l G
+
+pub edge-all : (g : Grid) (e : List ℤ) (c : ℕ) (l : List ℕ) → Gathered g e c (keyOr (keyOf (at e c))) l 8 → l ≡ edgeKeys g e c
+unfolding edgeKeys
+edge-all g e c l G = gathered-all g e c (keyOr (keyOf (at e c))) l G
+
+-- a neighbour's key, or the own
+pub key-or-void : (own k : ℕ) → k ≡ 0 → keyOr own k ≡ own
+unfolding keyOr
+key-or-void own k z = cond-true own k (eq-eqb k 0 z)
+
+pub key-or-data : (own k : ℕ) → (k ≡ 0 → ⊥) → keyOr own k ≡ k
+unfolding keyOr
+key-or-data own k f = cond-false own k (ne-eqb k 0 f)
 
 module _ (g : Grid) (e : List ℤ) (c : ℕ) (known : KnownTo g e c 8) where
   abbrev key : ℕ → ℕ
   key q = keyOf (at e (neighbour g c q))
 
-  abbrev l : List ℕ
-  l = keysOf g e c
+  abbrev own : ℕ
+  own = keyOf (at e c)
 
-  around : (q : ℕ) → q < 8 → getD l q 0 ≡ key q
-  unfolding keysOf
-  around q h = at-table 8 key q 0 h
+  -- ---- over keys that are the own where no data lies, the drops are those of the definition
+  module _ (hc : void ≤ℤ at e c) (l : List ℕ) (around : (q : ℕ) → q < 8 → getD l q 0 ≡ keyOr own (key q)) where
+    void-here : (q : ℕ) → q < 8 → key q ≡ 0 → (isData e (neighbour g c q) ≡ false) × (getD l q 0 ≡ own)
+    void-here q h z =
+        (zero-no-data e (neighbour g c q) (key q) refl (known q h .0) z, around q h ∙ key-or-void own (key q) z)
 
-  -- ---- no void is near: the drops are those of the definition
-  module _ (hc : void ≤ℤ at e c) (full : (q : ℕ) → q < 8 → 0 < key q) where
-    abbrev own : ℕ
-    own = keyOf (at e c)
+    data-here : (q : ℕ) → q < 8 → (key q ≡ 0 → ⊥) → (isData e (neighbour g c q) ≡ true) × (getD l q 0 ≡ key q)
+    data-here q h f =
+        (data-key e (neighbour g c q) (known q h .0) ∙ lt-ltb 0 (key q) (above (key q) f), around q h ∙ key-or-data own (key q) f)
+      where
+        above : (x : ℕ) → (x ≡ 0 → ⊥) → 0 < x
+        above zero f = absurd (f refl)
+        above (suc x) f = omega arith
 
     fall-is : (q : ℕ) → q < 8 → (isData e (neighbour g c q) && ltZ (pos 0) (dropTo g e c q)) ≡ ltb (getD l q 0) own
     unfolding dropTo
-    fall-is q h =
-        ap₂ _&&_ (data-key e (neighbour g c q) (known q h .0) ∙ lt-ltb 0 (key q) (full q h))
-        (key-falls (at e c) (at e (neighbour g c q)) hc (known q h .0)) ∙ ap (λ (x : ℕ). ltb x own) (sym (around q h))
+    fall-is q h = go (ℕ-discrete (key q) 0)
+      where
+        go : Dec (key q ≡ 0) → (isData e (neighbour g c q) && ltZ (pos 0) (dropTo g e c q)) ≡ ltb (getD l q 0) own
+        go (yes z) =
+            let v = void-here q h z in
+            let same = v .1 in
+            and-false-left (ltZ (pos 0) (dropTo g e c q)) (v .0) ∙ sym (le-ltb (getD l q 0) own (omega arith))
+        go (no f) =
+            let d = data-here q h f in
+            ap₂ _&&_ (d .0) (key-falls (at e c) (at e (neighbour g c q)) hc (known q h .0)) ∙ ap (λ (x : ℕ). ltb x own) (sym (d .1))
 
-    drop-down : (q : ℕ) → q < 8 → key q ≤ own → dropTo g e c q ≡ pos (own - getD l q 0)
+    drop-down : (q : ℕ) → q < 8 → getD l q 0 ≡ key q → key q ≤ own → dropTo g e c q ≡ pos (own - getD l q 0)
     unfolding dropTo
-    drop-down q h k = key-drop (at e c) (at e (neighbour g c q)) hc (known q h .0) k ∙ ap (λ (x : ℕ). pos (own - x)) (sym (around q h))
+    drop-down q h d k = key-drop (at e c) (at e (neighbour g c q)) hc (known q h .0) k ∙ ap (λ (x : ℕ). pos (own - x)) (sym d)
 
     drop-up : (q : ℕ) → q < 8 → own < key q → dropTo g e c q ≡ negsuc (key q - suc own)
     unfolding dropTo
@@ -113,21 +142,33 @@ module _ (g : Grid) (e : List ℤ) (c : ℕ) (known : KnownTo g e c 8) where
     -- q beats p, where p has a drop above 0
     beats-is : (p q : ℕ) → p < 8 → q < 8 → getD l p 0 < own →
         (isData e (neighbour g c q) && beats g (dropTo g e c q) q (dropTo g e c p) p) ≡ over p q
-    beats-is p q hp hq lp =
-        ap (λ (t : Bool). t && beats g (dropTo g e c q) q (dropTo g e c p) p)
-        (data-key e (neighbour g c q) (known q hq .0) ∙ lt-ltb 0 (key q) (full q hq)) ∙ go (decLt own (key q))
+    beats-is p q hp hq lp = near (ℕ-discrete (key q) 0)
       where
-        down : dropTo g e c p ≡ pos (own - getD l p 0)
-        down = drop-down p hp (omega (arith, around p hp))
+        here : getD l p 0 ≡ key p
+        here = data-here p hp (λ z. let same = void-here p hp z .1 in let y : ⊥ = omega arith in absurd y) .1
 
-        go : Dec (own < key q) → beats g (dropTo g e c q) q (dropTo g e c p) p ≡ over p q
-        go (yes k) =
+        down : dropTo g e c p ≡ pos (own - getD l p 0)
+        down = drop-down p hp here (let y = here in omega arith)
+
+        level : own - getD l q 0 ≡ 0 → over p q ≡ false
+        level z = nothing-over (own - getD l q 0) (squaredDistance g p) (squareAt own l p * squaredDistance g q) z
+
+        go : getD l q 0 ≡ key q → Dec (own < key q) → beats g (dropTo g e c q) q (dropTo g e c p) p ≡ over p q
+        go d (yes k) =
             ap₂ (λ (x y : ℤ). beats g x q y p) (drop-up q hq k) down ∙ up-loses g (key q - suc own) (own - getD l p 0) q p
-            ∙ sym (nothing-over (own - getD l q 0) (squaredDistance g p) (squareAt own l p * squaredDistance g q)
-            (omega (arith, around q hq)))
-        go (no k) =
-            ap₂ (λ (x y : ℤ). beats g x q y p) (drop-down q hq (omega arith)) down
+            ∙ sym (level (omega arith))
+        go d (no k) =
+            ap₂ (λ (x y : ℤ). beats g x q y p) (drop-down q hq d (omega arith)) down
             ∙ beats-products g (own - getD l q 0) (own - getD l p 0) q p
+
+        near : Dec (key q ≡ 0) → (isData e (neighbour g c q) && beats g (dropTo g e c q) q (dropTo g e c p) p) ≡ over p q
+        near (yes z) =
+            let v = void-here q hq z in
+            let same = v .1 in
+            and-false-left (beats g (dropTo g e c q) q (dropTo g e c p) p) (v .0) ∙ sym (level (omega arith))
+        near (no f) =
+            let d = data-here q hq f in
+            ap (λ (t : Bool). t && beats g (dropTo g e c q) q (dropTo g e c p) p) (d .0) ∙ go (d .1) (decLt own (key q))
 
     steep-is : (p : ℕ) → p < 8 → isSteepest g e c p ≡ unbeaten g own l p
     unfolding isSteepest beaten unbeaten
@@ -146,10 +187,23 @@ module _ (g : Grid) (e : List ℤ) (c : ℕ) (known : KnownTo g e c 8) where
         sum-ext 8 (λ p. cond (unbeaten g own l p) (codeAt p) 0) (λ p. cond (isSteepest g e c p) (codeAt p) 0)
         (λ p h. ap (λ (t : Bool). cond t (codeAt p) 0) (sym (steep-is p h)))
 
-  -- ---- a void is near exactly where the cell is void or an outlet
-  module _ (len : length e ≡ size g) (hc : void ≤ℤ at e c) where
+  -- for any cell
+  pub edge-is : void ≤ℤ at e c → steepestIn g own (edgeKeys g e c) ≡ steepestSum g e c
+  unfolding edgeKeys
+  edge-is hc = steepest-is hc (edgeKeys g e c) (λ q h. at-table 8 (λ p. keyOr own (key p)) q 0 h)
+
+  abbrev l : List ℕ
+  l = keysOf g e c
+
+  around : (q : ℕ) → q < 8 → getD l q 0 ≡ key q
+  unfolding keysOf
+  around q h = at-table 8 key q 0 h
+
+  -- ---- within the border a void is near exactly where the cell is void or an outlet
+  module _ (on : (q : ℕ) → q < 8 → neighbour g c q < size g) (hc : void ≤ℤ at e c) where
     near-leaves : (q : ℕ) → q < 8 → eqb (getD l q 0) 0 ≡ leavesAt g e c q
-    near-leaves q h = leaves-key g e len c q (getD l q 0) (known q h .0) (around q h)
+    near-leaves q h =
+        leaves-key g e c q (getD l q 0) (λ y. let k = on q h in let z : ⊥ = omega arith in absurd z) (known q h .0) (around q h)
 
     void-near : (isData e c && not (isOutlet g e c)) ≡ not (anyVoid (keyOf (at e c)) l)
     unfolding isOutlet anyVoid
@@ -169,17 +223,14 @@ module _ (g : Grid) (e : List ℤ) (c : ℕ) (known : KnownTo g e c 8) where
         near : anyVoid (keyOf (at e c)) l ≡ true → markedIn g (keyOf (at e c)) l ≡ innerSum g e c
         near t = cond-true 256 (steepestIn g (keyOf (at e c)) l) t ∙ sym (cond-false (steepestSum g e c) 256 (void-near ∙ ap not t))
 
-        positive : (q : ℕ) → anyVoid (keyOf (at e c)) l ≡ false → q < 8 → 0 < key q
-        positive q t h =
-            let none = no-of-any 8 (λ r. eqb (getD l r 0) 0)
-            (or-none-right (eqb (keyOf (at e c)) 0) (anyBelow 8 (λ r. eqb (getD l r 0) 0)) t) q h in
-            above (key q) (λ z. eqb-false (getD l q 0) 0 none (around q h ∙ z))
-          where
-            above : (x : ℕ) → (x ≡ 0 → ⊥) → 0 < x
-            above zero f = absurd (f refl)
-            above (suc x) f = omega arith
+        no-void : (q : ℕ) → anyVoid (keyOf (at e c)) l ≡ false → q < 8 → key q ≡ 0 → ⊥
+        no-void q t h z =
+            eqb-false (getD l q 0) 0
+            (no-of-any 8 (λ r. eqb (getD l r 0) 0) (or-none-right (eqb (keyOf (at e c)) 0) (anyBelow 8 (λ r. eqb (getD l r 0) 0)) t) q h)
+            (around q h ∙ z)
 
         clear : anyVoid (keyOf (at e c)) l ≡ false → markedIn g (keyOf (at e c)) l ≡ innerSum g e c
         clear t =
-            cond-false 256 (steepestIn g (keyOf (at e c)) l) t ∙ steepest-is hc (λ q h. positive q t h)
+            cond-false 256 (steepestIn g (keyOf (at e c)) l) t
+            ∙ steepest-is hc l (λ q h. around q h ∙ sym (key-or-data own (key q) (no-void q t h)))
             ∙ sym (cond-true (steepestSum g e c) 256 (void-near ∙ ap not t))

@@ -20,6 +20,13 @@ choices = table 256 choice
 unfoldable pub keysOf : Grid → List ℤ → ℕ → List ℕ
 keysOf g e c = table 8 (λ p. keyOf (at e (neighbour g c p)))
 
+-- the same, but the cell's own key where no data lies: there is no drop there
+unfoldable pub keyOr : ℕ → ℕ → ℕ
+keyOr own k = cond (eqb k 0) own k
+
+unfoldable pub edgeKeys : Grid → List ℤ → ℕ → List ℕ
+edgeKeys g e c = table 8 (λ p. keyOr (keyOf (at e c)) (keyOf (at e (neighbour g c p))))
+
 -- the square of the drop at a position, 0 where there is none: a cell's key is own, and the keys around it are l
 abbrev pub squareAt : ℕ → List ℕ → ℕ → ℕ
 squareAt own l q = (own - getD l q 0) * (own - getD l q 0)

@@ -9,11 +9,12 @@ ghost use mathlib.Core.Bool.{cond};
 ghost use Prim.Native.Nat.{ℕ, _+_, _-_, _*_, _/_, _%_, _<_, _≤_, _^_};
 ghost use lib.Dec.{ltb};
 ghost use lib.ListN.{length, getD};
-ghost use Rattle.grid.specs.Sheet.{size};
-ghost use Rattle.grid.specs.Directions.{squaredDistance, choice};
+ghost use Rattle.grid.specs.Sheet.{size, at};
+ghost use Rattle.grid.specs.Directions.{squaredDistance, steepestSum, choice};
 ghost use Rattle.cells.specs.Around.{KnownTo};
+ghost use Rattle.cells.specs.Keys.{keyOf};
 ghost use Rattle.cells.specs.Steps.{Inner, Offsets};
-ghost use Rattle.slopes.specs.Steepest.{choices as choices', keysOf, steepestIn, markedIn, innerSum};
+ghost use Rattle.slopes.specs.Steepest.{choices as choices', keysOf, keyOr, edgeKeys, steepestIn, markedIn, innerSum};
 ghost use Rattle.slopes.specs.Steepest.{lowerOf, lowestOf, membersOf, lowSide, lowCorner, sideCodes, cornerCodes, leadsOf, largerOf};
 
 // "one table of 256 entries gives the choice for every sum"
@@ -483,4 +484,43 @@ pub fn row_sums(
         work[cell] = inner_sum(g, offsets, elevations, cell) as u32;
         cell += 1;
     }
+}
+
+// A neighbour's key, or the cell's own where there is no data cell.
+fn key_or(own: u16, key: u32) -> u16
+    requires { ⌜ key < 65536 ⌝ }
+    ensures { λ r. ⌜ r ≡ keyOr own key ⌝ }
+{
+    if key == 0 {
+        return own;
+    }
+    key as u16
+}
+
+// The keys around any cell, its own where there is no data cell; `own` is its key.
+fn edge_keys(g: Grid, elevations: &[i16], cell: usize, own: u16) -> [u16; 8]
+    requires { ⌜ size g < 2 ^ 24 ⌝ }
+    requires { ⌜ cell < size g ⌝ }
+    requires { ⌜ own ≡ keyOf (at (now elevations) cell) ⌝ }
+    ensures { λ r. ⌜ r ≡ edgeKeys g (now (elevations .entry)) cell ⌝ }
+    ensures { λ r. ⌜ KnownTo g (now (elevations .entry)) cell 8 ⌝ }
+{
+    let mut keys = [0u16; 8];
+    let mut p: usize = 0;
+    while p < 8 {
+        keys[p] = key_or(own, cells::key_at(elevations, cells::neighbour(g, cell, p)));
+        p += 1;
+    }
+    keys
+}
+
+// For any cell, as on a closed side: the sum of the codes of the largest weighted drop, 0 where none is above 0.
+pub fn edge_sum(g: Grid, elevations: &[i16], cell: usize) -> u16
+    requires { ⌜ size g < 2 ^ 24 ⌝ }
+    requires { ⌜ cell < size g ⌝ }
+    ensures { λ r. ⌜ r ≡ steepestSum g (now (elevations .entry)) cell ⌝ }
+{
+    let own = cells::key_at(elevations, cell) as u16;
+    let keys = edge_keys(g, elevations, cell, own);
+    steepest_of(g, own, &keys)
 }

@@ -53,7 +53,7 @@ module _ (g : Grid) (codes counts : List ℕ) (threshold : ℕ) (s₀ w₀ : Lis
         answer = answered-no before-11 answered n (askCodes g codes accepted);
         count = kept n (startCount g codes counts threshold);
         result = kept n (starts g codes counts threshold);
-        work = record { same-length = refl; untouched = λ l h. refl };
+        work = record { same-length = refl; untouched = λ _. refl };
       }
 
   module _ (yes : r .number ≡ 0) where
@@ -80,7 +80,7 @@ module _ (g : Grid) (codes counts : List ℕ) (threshold : ℕ) (s₀ w₀ : Lis
           answer = ap (refusal 11) e ∙ sym (codes-bad g codes accepted (omega arith)) ∙ check-is;
           count = refl;
           result = refl;
-          work = record { same-length = refl; untouched = λ l h. refl };
+          work = record { same-length = refl; untouched = λ _. refl };
         }
 
     pub none-bad : (bad : ℕ) → bad ≡ firstBadCode g codes → length codes ≤ bad → firstBadCode g codes ≡ size g
@@ -94,8 +94,8 @@ module _ (g : Grid) (codes counts : List ℕ) (threshold : ℕ) (s₀ w₀ : Lis
           answer = S .answer ∙ sym (cell-yes 11 (firstBadCode g codes) g (askCell 12 g (firstEndless g codes) accepted) good) ∙ check-is;
           count = S .count;
           result = S .result;
-          work = record { same-length = same; untouched = λ l h. absurd (subst Late (sym (S .answer)) late l h) };
+          work = record { same-length = same; untouched = λ t. absurd (subst Late (sym (S .answer)) late t) };
         }
       where
         late : Late (askCell 12 g (firstEndless g codes) accepted)
-        late = cell-late 12 (firstEndless g codes) g accepted (omega arith) yes-late
+        late = cell-late 12 (firstEndless g codes) g accepted (omega arith) (λ q. omega arith) yes-late

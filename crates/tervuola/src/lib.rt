@@ -5,7 +5,7 @@ use grid::Answer;
 use grid::Counted;
 use grid::Dimensions;
 use grid::Grid;
-ghost use Rattle.grid.specs.Sheet.{gridOf};
+ghost use Rattle.grid.specs.Sheet.{gridOf, closedGrid};
 ghost use Rattle.grid.specs.Promises.{CountsPromise, CulvertPromise, DirectionsPromise, DrainPromise, FillPromise, LabelsPromise};
 ghost use Rattle.grid.specs.Promises.{PondsPromise, PourPointsPromise, ReadPromise, StartsPromise, WatershedsPromise};
 
@@ -14,16 +14,18 @@ ghost use Rattle.grid.specs.Promises.{PondsPromise, PourPointsPromise, ReadProm
 pub extern "C" fn tervuola_fill(
     rows: u32,
     cols: u32,
+    sides: u32,
     elevations: &[i16],
     filled: &mut [i16],
     work: &mut [u32],
 ) -> Answer
-    ensures { λ r. ⌜ FillPromise (gridOf rows cols) (now (elevations .entry)) (now (filled .entry)) (now (filled .exit))
+    ensures { λ r. ⌜ FillPromise (closedGrid rows cols sides) (now (elevations .entry)) (now (filled .entry)) (now (filled .exit))
         (now (work .entry)) (now (work .exit)) r ⌝ }
 {
     let g = Grid {
         rows: rows as usize,
         cols: cols as usize,
+        sides: sides as usize,
     };
     fill::fill(g, elevations, filled, work)
 }
@@ -33,6 +35,7 @@ pub extern "C" fn tervuola_fill(
 pub extern "C" fn tervuola_ponds(
     rows: u32,
     cols: u32,
+    sides: u32,
     elevations: &[i16],
     ponds: &mut [u32],
     level: &mut [i16],
@@ -40,13 +43,14 @@ pub extern "C" fn tervuola_ponds(
     volume: &mut [u64],
     work: &mut [u32],
 ) -> Counted
-    ensures { λ r. ⌜ PondsPromise (gridOf rows cols) (now (elevations .entry)) (now (ponds .entry)) (now (ponds .exit))
+    ensures { λ r. ⌜ PondsPromise (closedGrid rows cols sides) (now (elevations .entry)) (now (ponds .entry)) (now (ponds .exit))
         (now (level .entry)) (now (level .exit)) (now (cells .entry)) (now (cells .exit)) (now (volume .entry)) (now (volume .exit))
         (now (work .entry)) (now (work .exit)) r ⌝ }
 {
     let g = Grid {
         rows: rows as usize,
         cols: cols as usize,
+        sides: sides as usize,
     };
     ponds::ponds(g, elevations, ponds, level, cells, volume, work)
 }
@@ -56,16 +60,18 @@ pub extern "C" fn tervuola_ponds(
 pub extern "C" fn tervuola_directions(
     rows: u32,
     cols: u32,
+    sides: u32,
     elevations: &[i16],
     codes: &mut [u8],
     work: &mut [u32],
 ) -> Answer
-    ensures { λ r. ⌜ DirectionsPromise (gridOf rows cols) (now (elevations .entry)) (now (codes .entry)) (now (codes .exit))
+    ensures { λ r. ⌜ DirectionsPromise (closedGrid rows cols sides) (now (elevations .entry)) (now (codes .entry)) (now (codes .exit))
         (now (work .entry)) (now (work .exit)) r ⌝ }
 {
     let g = Grid {
         rows: rows as usize,
         cols: cols as usize,
+        sides: sides as usize,
     };
     directions::directions(g, elevations, codes, work)
 }
@@ -85,6 +91,7 @@ pub extern "C" fn tervuola_counts(
     let g = Grid {
         rows: rows as usize,
         cols: cols as usize,
+        sides: 0,
     };
     counts::counts(g, codes, counts, work)
 }
@@ -104,6 +111,7 @@ pub extern "C" fn tervuola_labels(
     let g = Grid {
         rows: rows as usize,
         cols: cols as usize,
+        sides: 0,
     };
     labels::labels(g, codes, labels, work)
 }
@@ -113,6 +121,7 @@ pub extern "C" fn tervuola_labels(
 pub extern "C" fn tervuola_drain(
     rows: u32,
     cols: u32,
+    sides: u32,
     elevations: &[i16],
     filled: &mut [i16],
     codes: &mut [u8],
@@ -120,13 +129,14 @@ pub extern "C" fn tervuola_drain(
     labels: &mut [u32],
     work: &mut [u32],
 ) -> Answer
-    ensures { λ r. ⌜ DrainPromise (gridOf rows cols) (now (elevations .entry)) (now (filled .entry)) (now (filled .exit))
+    ensures { λ r. ⌜ DrainPromise (closedGrid rows cols sides) (now (elevations .entry)) (now (filled .entry)) (now (filled .exit))
         (now (codes .entry)) (now (codes .exit)) (now (counts .entry)) (now (counts .exit)) (now (labels .entry)) (now (labels .exit))
         (now (work .entry)) (now (work .exit)) r ⌝ }
 {
     let g = Grid {
         rows: rows as usize,
         cols: cols as usize,
+        sides: sides as usize,
     };
     drainage::drain(g, elevations, filled, codes, counts, labels, work)
 }
@@ -136,6 +146,7 @@ pub extern "C" fn tervuola_drain(
 pub extern "C" fn tervuola_culvert(
     rows: u32,
     cols: u32,
+    sides: u32,
     elevations: &[i16],
     cell: u32,
     level: i16,
@@ -145,13 +156,14 @@ pub extern "C" fn tervuola_culvert(
     labels: &mut [u32],
     work: &mut [u32],
 ) -> Answer
-    ensures { λ r. ⌜ CulvertPromise (gridOf rows cols) (now (elevations .entry)) cell level (now (filled .entry)) (now (filled .exit))
+    ensures { λ r. ⌜ CulvertPromise (closedGrid rows cols sides) (now (elevations .entry)) cell level (now (filled .entry)) (now (filled .exit))
         (now (codes .entry)) (now (codes .exit)) (now (counts .entry)) (now (counts .exit)) (now (labels .entry)) (now (labels .exit))
         (now (work .entry)) (now (work .exit)) r ⌝ }
 {
     let g = Grid {
         rows: rows as usize,
         cols: cols as usize,
+        sides: sides as usize,
     };
     culvert::culvert(
         g,
@@ -182,6 +194,7 @@ pub extern "C" fn tervuola_watersheds(
     let g = Grid {
         rows: rows as usize,
         cols: cols as usize,
+        sides: 0,
     };
     watersheds::watersheds(g, codes, starts, watersheds, work)
 }
@@ -203,6 +216,7 @@ pub extern "C" fn tervuola_starts(
     let g = Grid {
         rows: rows as usize,
         cols: cols as usize,
+        sides: 0,
     };
     starts::starts(g, codes, counts, threshold, starts, work)
 }
@@ -226,6 +240,7 @@ pub extern "C" fn tervuola_pour_points(
     let g = Grid {
         rows: rows as usize,
         cols: cols as usize,
+        sides: 0,
     };
     pour_points::pour_points(g, elevations, labels, smaller, larger, elevation, cell)
 }

@@ -47,6 +47,7 @@ pub fn header(text: &[u8]) -> Grid
     Grid {
         rows: first.value as usize,
         cols: second.value as usize,
+        sides: 0,
     }
 }
 

@@ -41,7 +41,7 @@ module _ (g : Grid) (codes starts k₀ w₀ : List ℕ) (r : Answer)
       record {
         answer = answered-no before-11 answered n (routesCheck g codes starts);
         result = kept n (watersheds g codes starts);
-        work = record { same-length = refl; untouched = λ l h. refl };
+        work = record { same-length = refl; untouched = λ _. refl };
       }
 
   module _ (yes : r .number ≡ 0) where
@@ -63,8 +63,8 @@ module _ (g : Grid) (codes starts k₀ w₀ : List ℕ) (r : Answer)
         record {
           answer = e ∙ answered-yes before-11 answered yes (routesCheck g codes starts);
           result = q;
-          work = record { same-length = same; untouched = λ l h. absurd (subst Late (sym e) late l h) };
+          work = record { same-length = same; untouched = λ t. absurd (subst Late (sym e) late t) };
         }
       where
         late : Late (routesCheck g codes starts)
-        late = codes-late g codes _ (cell-late 13 (firstBadStart g codes starts) g accepted (omega arith) yes-late)
+        late = codes-late g codes _ (cell-late 13 (firstBadStart g codes starts) g accepted (omega arith) (λ q. omega arith) yes-late)

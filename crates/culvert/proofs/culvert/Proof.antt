@@ -63,7 +63,7 @@ returns-2 c =
     let a = s .args in
     promise-of-yes (a .g) (a .elevations .now) (a .cell) (a .level) (a .filled .now) (a .codes .now) (a .counts .now) (a .labels .now)
     (a .work .now) (k .result) (known-level (k .result) _ (k .ensures) ∙ toZ-ofZ (s .fits .level)) (q .result) (q .ensures) (y .if1 .left)
-    _ _ _ _ _ (w .ensures) (w .kept .1 .1 .1 .1 .1 .1 .1 .1 .0)
+    _ _ _ _ _ (w .result) (w .ensures .0) (w .ensures .1) (w .kept .1 .1 .1 .1 .1 .1 .1 .1 .0)
 
 pub culvert-spec : {M : Type 1} → statement M
 culvert-spec =

@@ -1,11 +1,14 @@
 -- Keys stay keys when one is stored among them, and what they then spell is the opened sheet.
-use mathlib.Core.Path.{sym, _∙_, subst}
+use mathlib.Core.Path.{sym, _∙_, ap, subst}
+use mathlib.Core.List.{List}
 use Prim.Native.Nat.{_<_}
 use native.Mathlib.Omega.{arith}
 use lib.ListN.{length}
+use lib.IntN.{ℤ}
 use borrow.Author.Needs.{needs}
 use Rattle.drainage.specs.Results.{Measured}
-use Rattle.drainage.proofs.Four.{results-of}
+use Rattle.grid.specs.Checks.{accepted, askReach}
+use Rattle.drainage.proofs.Four.{four-of}
 use Rattle.culvert.proofs.Loaded.{loaded-opened-keys, loaded-opened-sheet}
 use Rattle.culvert.proofs.drain_opened.Statement.{statement}
 use Rattle.culvert.proofs.drain_opened.Tie as tie
@@ -57,10 +60,10 @@ returns c =
     let l = d .load in
     let same = l .kept .1 .0 in
     let on : a .cell < length (l .last .1 .0) = omega (arith, s .pre .0 .room, s .pre .1 .1 .0) in
-    results-of
-    (loaded-opened-sheet (a .g) (a .elevations .now) (l .last .1 .0) (o .last .0) (a .cell) (a .key) (s .pre .1 .0) (l .ensures .1)
-    (l .ensures .0) on (o .ensures))
-    (e .drain-loaded .ensures)
+    let sheet =
+    loaded-opened-sheet (a .g) (a .elevations .now) (l .last .1 .0) (o .last .0) (a .cell) (a .key) (s .pre .1 .0) (l .ensures .1)
+    (l .ensures .0) on (o .ensures) in
+    (e .drain-loaded .ensures .0 ∙ ap (λ (x : List ℤ). askReach (a .g) x accepted) sheet, four-of sheet (e .drain-loaded .ensures .1))
 
 pub drain-opened-spec : {M : Type 1} → statement M
 drain-opened-spec =

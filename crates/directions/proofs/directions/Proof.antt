@@ -1,38 +1,42 @@
 -- The answer of the checks stands beside a no; after a yes its sizes are what `directions_into` asks for, and what that answers is
--- question 10.
+-- question 10, after 18.
+use mathlib.Core.Path.{_∙_}
 use native.Mathlib.Omega.{arith}
 use borrow.Author.Needs.{needs}
 use Rattle.directions.proofs.Promise.{refused-promise, accepted-sizes, lacking-promise, accepted-promise}
 use Rattle.directions.proofs.directions.Statement.{statement}
 use Rattle.directions.proofs.directions.Tie as tie
 
-check-requires : tie.Need-check-requires
-check-requires c κs = search needs
+check-outlets-requires : tie.Need-check-outlets-requires
+check-outlets-requires c κs = search needs
 
 returns : tie.Need-returns
 returns c =
     let a = c .before .before .before .before .before .args in
-    let k = c .before .before .check in
+    let k = c .before .before .check-outlets in
     refused-promise (a .g) (a .elevations .now) (a .codes .now) (a .work .now) (k .result) (k .ensures) (c .if1 .taken)
 
 directions-into-requires : tie.Need-directions-into-requires
 directions-into-requires c κs =
     let yes = c .before .before in
-    let k = yes .before .before .check in
+    let k = yes .before .before .check-outlets in
     let a = yes .before .before .before .before .before .args in
     let s = accepted-sizes (a .g) (a .elevations .now) (a .codes .now) (a .work .now) (k .result) (k .ensures) (yes .if1 .left) in
     (s .0, (s .1, (s .2, (s .3, s .4))))
 
-cast-t15 : tie.Need-cast-t15
-cast-t15 c =
-    let yes = c .before .before .before .before .before .before .before .before in
-    let k = yes .before .before .check in
+lacking-requires : tie.Need-lacking-requires
+lacking-requires c κs =
+    let t = c .before in
+    let d = t .before .before .before .before .before .directions-into in
+    let yes = t .before .before .before .before .before .before .before .before in
+    let k = yes .before .before .check-outlets in
     let a = yes .before .before .before .before .before .args in
     let s = accepted-sizes (a .g) (a .elevations .now) (a .codes .now) (a .work .now) (k .result) (k .ensures) (yes .if1 .left) in
-    let small = s .0 in
     let len = s .1 in
-    let h = c .if2 .taken in
-    omega arith
+    let room = s .3 in
+    let same = d .kept .1 .1 .1 .0 in
+    let h = t .if2 .taken in
+    (s .0, (s .4, (s .1, (omega arith, omega arith))))
 
 same-length : tie.Need-same-length
 same-length c = search needs
@@ -42,12 +46,15 @@ same-length-2 c = search needs
 
 returns-2 : tie.Need-returns-2
 returns-2 c =
-    let d = c .before .before .before .before .before .directions-into in
-    let yes = c .before .before .before .before .before .before .before .before in
-    let k = yes .before .before .check in
+    let l = c .before .before in
+    let t = l .before .before in
+    let d = t .before .before .before .before .before .directions-into in
+    let yes = t .before .before .before .before .before .before .before .before in
+    let k = yes .before .before .check-outlets in
     let a = yes .before .before .before .before .before .args in
     lacking-promise (a .g) (a .elevations .now) (a .codes .now) (a .work .now) (k .result) (k .ensures) (yes .if1 .left) (d .result)
-    (d .ensures .0) (d .last .1 .1 .0) (d .last .1 .1 .1 .0) (d .ensures .1) (d .kept .1 .1 .1 .0) (c .if2 .taken)
+    (d .ensures .0) (d .last .1 .1 .0) (l .lacking .last .1 .1 .1 .0) (d .ensures .1) (l .lacking .kept .1 .1 .1 .0 ∙ d .kept .1 .1 .1 .0)
+    (t .if2 .taken) (l .lacking .result) (l .lacking .ensures)
 
 same-length-3 : tie.Need-same-length-3
 same-length-3 c = search needs
@@ -59,7 +66,7 @@ returns-3 : tie.Need-returns-3
 returns-3 c =
     let d = c .before .before .before .before .before .directions-into in
     let yes = c .before .before .before .before .before .before .before .before in
-    let k = yes .before .before .check in
+    let k = yes .before .before .check-outlets in
     let a = yes .before .before .before .before .before .args in
     accepted-promise (a .g) (a .elevations .now) (a .codes .now) (a .work .now) (k .result) (k .ensures) (yes .if1 .left) (d .result)
     (d .ensures .0) (d .last .1 .1 .0) (d .last .1 .1 .1 .0) (d .ensures .1) (d .kept .1 .1 .1 .0) (c .if2 .left)
@@ -68,10 +75,10 @@ pub directions-spec : {M : Type 1} → statement M
 directions-spec =
     tie.close
     (tie.spec
-    check-requires
+    check-outlets-requires
     returns
     directions-into-requires
-    cast-t15
+    lacking-requires
     same-length
     same-length-2
     returns-2

@@ -55,6 +55,7 @@ drain-sheet-requires c κs =
       few = p .few;
       rows-in-range = p .rows-in-range;
       cols-in-range = p .cols-in-range;
+      no-sides = refl;
       elevations-size = length-take-le _ _ (omega (arith, p .few, r .kept .1 .0));
       room = c .before .before .before .before .before .before .before .before .before .before .pre;
     }

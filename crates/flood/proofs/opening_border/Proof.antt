@@ -1,23 +1,20 @@
 -- The eight steps one after the other: none of those before p opens.
 use native.Mathlib.Omega.{arith}
 use Prim.Native.Nat.{ℕ, _-_, _≤_, _<_}
-use mathlib.Core.Path.{sym}
+use mathlib.Core.Path.{refl, sym}
 use mathlib.Core.Bool.{true≢false}
 use Rattle.grid.specs.Sheet.{size, neighbour}
+use Rattle.grid_laws.proofs.Neighbours.{neighbour-≤}
 use Rattle.flood_laws.specs.Flood.{Opens}
 use Rattle.flood_laws.specs.Packed.{frontOf, backOf}
 use Rattle.flood_laws.proofs.Steps.{opening-of, none-opens}
 use borrow.Author.Count.{below-more}
 use Rattle.flood.proofs.opening_border.Statement.{statement}
 use Rattle.flood.proofs.opening_border.Tie as tie
-use Rattle.flood.proofs.opening_border.Reads as reads
-use Rattle.flood.proofs.opening_border.Lts as lts
-use Rattle.cells.proofs.neighbour.Reads as neighbour-reads
-use Rattle.flood.proofs.opens_any.Reads as opens-any-reads
 
 abbrev Inv-loop : tie.InvT-loop
 Inv-loop g half c work n p₀ p =
-    (p ≤ 8) × ((q : ℕ) → q < p → Opens (size g) (frontOf (size g) work) (backOf (size g) half work) (neighbour g c q) → ⊥)
+    (p ≤ 8) × ((q : ℕ) → q < p → Opens g (frontOf (size g) work) (backOf (size g) half work) q (neighbour g c q) → ⊥)
 
 abbrev μ-loop : tie.MeasureT-loop
 μ-loop g half c work n p₀ p = 8 - p
@@ -32,7 +29,11 @@ neighbour-requires : tie.Need-neighbour-requires Inv-loop μ-loop
 neighbour-requires c κs = let s = c .before .before .before .before in (s .pre .0, (s .pre .1 .1 .0, c .loop-test .taken))
 
 opens-any-requires : tie.Need-opens-any-requires Inv-loop μ-loop
-opens-any-requires c κs = c .before .before .before .before .before .pre .1 .0
+opens-any-requires c κs =
+    let s = c .before .before .before .before .before in
+    let a = s .args in
+    let t = c .before .loop-test .taken in
+    (refl, (s .pre .1 .0, (t, rw (c .neighbour .ensures) (neighbour-≤ (a .g) (a .c) (c .before .before .loop .p) t))))
 
 returns : tie.Need-returns Inv-loop μ-loop
 returns c =

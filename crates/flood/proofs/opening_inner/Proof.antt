@@ -6,18 +6,14 @@ use mathlib.Core.Bool.{true≢false}
 use Rattle.grid.specs.Sheet.{size, neighbour}
 use Rattle.flood_laws.specs.Flood.{Opens}
 use Rattle.flood_laws.specs.Packed.{frontOf, backOf}
-use Rattle.flood_laws.proofs.Steps.{opening-of, none-opens}
+use Rattle.flood_laws.proofs.Steps.{opening-of, none-opens, opens-on, opens-not-on}
 use borrow.Author.Count.{below-more}
 use Rattle.flood.proofs.opening_inner.Statement.{statement}
 use Rattle.flood.proofs.opening_inner.Tie as tie
-use Rattle.flood.proofs.opening_inner.Reads as reads
-use Rattle.flood.proofs.opening_inner.Lts as lts
-use Rattle.cells.proofs.beside.Reads as beside-reads
-use Rattle.flood.proofs.opens.Reads as opens-reads
 
 abbrev Inv-loop : tie.InvT-loop
 Inv-loop g half c offsets work n p₀ p =
-    (p ≤ 8) × ((q : ℕ) → q < p → Opens (size g) (frontOf (size g) work) (backOf (size g) half work) (neighbour g c q) → ⊥)
+    (p ≤ 8) × ((q : ℕ) → q < p → Opens g (frontOf (size g) work) (backOf (size g) half work) q (neighbour g c q) → ⊥)
 
 abbrev μ-loop : tie.MeasureT-loop
 μ-loop g half c offsets work n p₀ p = 8 - p
@@ -40,10 +36,12 @@ returns : tie.Need-returns Inv-loop μ-loop
 returns c =
     let s = c .before .before .before .before .before .before .before in
     let a = s .args in
+    let f = frontOf (size (a .g)) (a .work .now) in
+    let b = backOf (size (a .g)) (a .half) (a .work .now) in
     let l = c .before .before .before .before .loop in
-    let o = (rw (c .before .before .beside .ensures .0) at (c .before .opens .ensures .0 (c .if1 .taken))) in (
-      λ e. opening-of (a .g) (frontOf (size (a .g)) (a .work .now)) (backOf (size (a .g)) (a .half) (a .work .now)) (a .c)
-          (s .pre .1 .1 .0) (l .p) (omega arith) o,
+    let m = c .before .before .beside .ensures in
+    let o = opens-on (a .g) f b (l .p) (m .0) (m .1) (c .before .opens .ensures .0 (c .if1 .taken)) in (
+      λ e. opening-of (a .g) f b (a .c) (s .pre .1 .1 .0) (l .p) (omega arith) o,
       λ e. absurd (true≢false e),
     )
 
@@ -54,11 +52,14 @@ loop-less : tie.Need-loop-less Inv-loop μ-loop
 loop-less c = omega arith
 
 loop-again : tie.Need-loop-again Inv-loop μ-loop
-loop-again c = (
-  omega arith,
-  below-more _ _ (c .before .before .before .before .loop .inv .1)
-      (rw (c .before .before .beside .ensures .0) at (c .before .opens .ensures .1 (c .if1 .left))),
-)
+loop-again c =
+    let a = c .before .before .before .before .before .before .before .args in
+    let f = frontOf (size (a .g)) (a .work .now) in
+    let b = backOf (size (a .g)) (a .half) (a .work .now) in
+    let l = c .before .before .before .before .loop in
+    let m = c .before .before .beside .ensures in
+    let o = opens-not-on (a .g) f b (l .p) (m .0) (m .1) (c .before .opens .ensures .1 (c .if1 .left)) in
+    (omega arith, below-more _ _ (l .inv .1) o)
 
 returns-2 : tie.Need-returns-2 Inv-loop μ-loop
 returns-2 c =

@@ -1,5 +1,5 @@
 use mathlib.Core.Path.{_∙_}
-use Rattle.flow.proofs.Seeds.{sum-word, sum-outer}
+use Rattle.flow.proofs.Seeds.{sum-word}
 use borrow.Author.Needs.{needs}
 use Rattle.flow.proofs.inner_word.Statement.{statement}
 use Rattle.flow.proofs.inner_word.Tie as tie
@@ -16,15 +16,12 @@ returns c =
     c .choose .ensures
     ∙ sum-word (s .args .g) (s .args .elevations .now) (s .args .cell) (s .args .sum) (s .pre .1 .1 .1 .1) (c .before .if1 .taken)
 
-outer-word-requires : tie.Need-outer-word-requires
-outer-word-requires c κs =
-    let s = c .before in
-    let outlet = sum-outer (s .args .g) (s .args .elevations .now) (s .args .cell) (s .args .sum) (s .pre .1 .1 .1 .1) (c .if1 .left) in
-    (s .pre .0, (s .pre .1 .0, (s .pre .1 .1 .0, outlet)))
+edge-word-requires : tie.Need-edge-word-requires
+edge-word-requires c κs = search needs
 
 returns-2 : tie.Need-returns-2
 returns-2 c = search needs
 
 pub inner-word-spec : {M : Type 1} → statement M
 inner-word-spec =
-    tie.close (tie.spec choose-requires cast-result returns outer-word-requires returns-2)
+    tie.close (tie.spec choose-requires cast-result returns edge-word-requires returns-2)

@@ -1,20 +1,22 @@
 use native.Mathlib.Omega.{arith}
-use Rattle.flow.proofs.Borders.{few-rows, few-cols}
 use borrow.Author.Needs.{needs}
 use Rattle.flow.proofs.seed.Statement.{statement}
 use Rattle.flow.proofs.seed.Tie as tie
 
-outer-words-requires : tie.Need-outer-words-requires
-outer-words-requires c κs =
-    let s = c .before .before .before .before in
-    let len = s .pre .0 in
-    let few = c .before .if1 .taken in (
+choices-requires : tie.Need-choices-requires
+choices-requires c κs = search needs
+
+edge-words-requires : tie.Need-edge-words-requires
+edge-words-requires c κs =
+    let made = c .before .before .before .before in
+    let s = made .before .before in
+    let len = s .pre .0 in (
       len,
       (
         s .pre .1 .0,
         (
           s .pre .1 .1 .0,
-          ((omega arith, omega arith), ((λ i h k. few-rows (s .args .g) few i (omega arith)), λ i h. let z : ⊥ = omega arith in absurd z)),
+          (made .choices .ensures, ((omega arith, omega arith), λ i h. let z : ⊥ = omega arith in absurd z)),
         ),
       ),
     )
@@ -24,21 +26,21 @@ same-length c = search needs
 
 returns : tie.Need-returns
 returns c =
-    let s = c .before .before .before .before .before .before .before in
+    let s = c .before .before .before .before .before .before .before .before .before in
     let len = s .pre .0 in
-    λ i h. c .before .before .outer-words .ensures i (omega arith)
+    λ i h. c .before .before .edge-words .ensures i (omega arith)
 
-outer-words-requires-2 : tie.Need-outer-words-requires-2
-outer-words-requires-2 c κs =
-    let s = c .before .before .before .before .before .before in
-    let len = s .pre .0 in
-    let few = c .before .if2 .taken in (
+edge-words-requires-2 : tie.Need-edge-words-requires-2
+edge-words-requires-2 c κs =
+    let made = c .before .before .before .before .before .before in
+    let s = made .before .before in
+    let len = s .pre .0 in (
       len,
       (
         s .pre .1 .0,
         (
           s .pre .1 .1 .0,
-          ((omega arith, omega arith), ((λ i h k. few-cols (s .args .g) few i (omega arith)), λ i h. let z : ⊥ = omega arith in absurd z)),
+          (made .choices .ensures, ((omega arith, omega arith), λ i h. let z : ⊥ = omega arith in absurd z)),
         ),
       ),
     )
@@ -48,16 +50,17 @@ same-length-2 c = search needs
 
 returns-2 : tie.Need-returns-2
 returns-2 c =
-    let s = c .before .before .before .before .before .before .before .before .before in
+    let s = c .before .before .before .before .before .before .before .before .before .before .before in
     let len = s .pre .0 in
-    λ i h. c .before .before .outer-words2 .ensures i (omega arith)
+    λ i h. c .before .before .edge-words2 .ensures i (omega arith)
 
 seed-rows-requires : tie.Need-seed-rows-requires
 seed-rows-requires c κs =
-    let s = c .before .before .before .before .before .before in
-    let tall = c .before .before .before .if1 .left in
-    let wide = c .before .if2 .left in
-    (s .pre .0, (s .pre .1 .0, (s .pre .1 .1 .0, ((omega arith, omega arith), s .pre .1 .1 .1))))
+    let wide = c .before .before .if2 .left in
+    let tall = c .before .before .before .before .if1 .left in
+    let made = c .before .before .before .before .before .before in
+    let s = made .before .before in
+    (s .pre .0, (s .pre .1 .0, (s .pre .1 .1 .0, (made .choices .ensures, ((omega arith, omega arith), s .pre .1 .1 .1)))))
 
 same-length-3 : tie.Need-same-length-3
 same-length-3 c = search needs
@@ -69,10 +72,11 @@ pub seed-spec : {M : Type 1} → statement M
 seed-spec =
     tie.close
     (tie.spec
-    outer-words-requires
+    choices-requires
+    edge-words-requires
     same-length
     returns
-    outer-words-requires-2
+    edge-words-requires-2
     same-length-2
     returns-2
     seed-rows-requires

@@ -2,7 +2,7 @@ use mathlib.Core.Path.{_∙_}
 use Prim.Native.Nat.{_+_, _*_, _≤_}
 use native.Mathlib.Omega.{arith}
 use Rattle.grid.specs.Sheet.{size}
-use Rattle.flow.proofs.Borders.{row-on, next-row, within-row, turn-border}
+use Rattle.flow.proofs.Rows.{row-on, next-row, within-row}
 use borrow.Author.Needs.{needs}
 use Rattle.flow.proofs.seed_row.Statement.{statement}
 use Rattle.flow.proofs.seed_row.Tie as tie
@@ -72,44 +72,32 @@ inner-words-requires c κs =
       ),
     )
 
-add-outer-words : tie.Need-add-outer-words
-add-outer-words c =
+add-edge-words : tie.Need-add-edge-words
+add-edge-words c =
     let s = c .before .before .before .before .before .before .before .before .before in
     let small = s .pre .1 .0 in
     omega (arith, room s)
 
-outer-words-requires : tie.Need-outer-words-requires
-outer-words-requires c κs =
+edge-words-requires : tie.Need-edge-words-requires
+edge-words-requires c κs =
     let inner = c .before .before .before .inner-words in
     let summed = c .before .before .before .before .before .before .before in
     let s = summed .before .before .before in
-    let g = s .args .g in
     let wide = s .pre .1 .1 .1 .1 .0 .2 in
     let long = s .pre .1 .1 .0 in
     let same = inner .kept .1 .1 .1 .1 .1 .0 in
-    let same₀ = summed .row-sums .kept .1 .1 .1 .1 .1 .0 in (
-      s .pre .0,
-      (
-        s .pre .1 .0,
-        (
-          omega arith,
-          (
-            (omega arith, omega (arith, room s)),
-            ((λ i h k. turn-border g (omega arith) (s .args .row) i (omega arith) (omega arith)), inner .ensures),
-          ),
-        ),
-      ),
-    )
+    let same₀ = summed .row-sums .kept .1 .1 .1 .1 .1 .0 in
+    (s .pre .0, (s .pre .1 .0, (omega arith, (s .pre .1 .1 .1 .0, ((omega arith, omega (arith, room s)), inner .ensures)))))
 
 same-length : tie.Need-same-length
 same-length c = search needs
 
 returns : tie.Need-returns
 returns c =
-    let outer = c .before .before .outer-words in
+    let edge = c .before .before .edge-words in
     let s = c .before .before .before .before .before .before .before .before .before .before .before .before .before in
     let wide = s .pre .1 .1 .1 .1 .0 .2 in
-    λ i h. outer .ensures i (omega (arith, next-row (s .args .g) (s .args .row)))
+    λ i h. edge .ensures i (omega (arith, next-row (s .args .g) (s .args .row)))
 
 pub seed-row-spec : {M : Type 1} → statement M
 seed-row-spec =
@@ -121,7 +109,7 @@ seed-row-spec =
     add-to
     row-sums-requires
     inner-words-requires
-    add-outer-words
-    outer-words-requires
+    add-edge-words
+    edge-words-requires
     same-length
     returns)

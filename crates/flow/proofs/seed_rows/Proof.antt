@@ -2,67 +2,61 @@ use mathlib.Core.Path.{_≡_, refl, _∙_}
 use Prim.Native.Nat.{_+_, _-_, _*_, _≤_, _<_}
 use native.Mathlib.Omega.{arith}
 use lib.ListN.{length}
-use borrow.Author.Needs.{needs}
 use Rattle.grid.specs.Sheet.{size}
 use Rattle.flow.specs.Seeding.{WordsTo}
-use Rattle.flow.proofs.Borders.{rows-small, row-on, row-whole, first-border, last-border}
+use Rattle.flow.proofs.Rows.{rows-small, row-on, row-whole}
 use Rattle.flow.proofs.seed_rows.Statement.{statement}
 use Rattle.flow.proofs.seed_rows.Tie as tie
 
 abbrev Inv-loop : tie.InvT-loop
-Inv-loop g offsets elevations work₀ table rows cols row₀ work row =
+Inv-loop g offsets elevations table work₀ rows cols row₀ work row =
     (1 ≤ row) × (row + 1 ≤ g .rows) × (length work ≡ length work₀) × WordsTo g elevations (row * g .cols + 1) work
 
 abbrev μ-loop : tie.MeasureT-loop
-μ-loop g offsets elevations work₀ table rows cols row₀ work row = g .rows - row
-
-choices-requires : tie.Need-choices-requires Inv-loop μ-loop
-choices-requires c κs = search needs
+μ-loop g offsets elevations table work₀ rows cols row₀ work row = g .rows - row
 
 -- two rows lie on the sheet, and a third
 three : (s : tie.Start Inv-loop μ-loop) → s .args .g .cols + s .args .g .cols + s .args .g .cols ≤ size (s .args .g)
 three s =
-    let tall = s .pre .1 .1 .1 .0 .0 in
+    let tall = s .pre .1 .1 .1 .1 .0 .0 in
     let one : 1 * s .args .g .cols + s .args .g .cols + s .args .g .cols ≤ size (s .args .g) = row-on (s .args .g) 1 (omega arith) in
     omega arith
 
-add-outer-words : tie.Need-add-outer-words Inv-loop μ-loop
-add-outer-words c =
-    let s = c .before .before in
+add-edge-words : tie.Need-add-edge-words Inv-loop μ-loop
+add-edge-words c =
+    let s = c .before in
     let small = s .pre .1 .0 in
     omega (arith, three s)
 
-outer-words-requires : tie.Need-outer-words-requires Inv-loop μ-loop
-outer-words-requires c κs =
-    let s = c .before .before .before in
-    let long = s .pre .1 .1 .0 in
-    let wide = s .pre .1 .1 .1 .0 .1 in (
+edge-words-requires : tie.Need-edge-words-requires Inv-loop μ-loop
+edge-words-requires c κs =
+    let s = c .before .before in (
       s .pre .0,
       (
         s .pre .1 .0,
         (
-          long,
-          (
-            (omega arith, omega (arith, three s)),
-            ((λ i h k. first-border (s .args .g) (omega arith) i k), λ i h. let z : ⊥ = omega arith in absurd z),
-          ),
+          s .pre .1 .1 .0,
+          (s .pre .1 .1 .1 .0, ((omega arith, omega (arith, three s)), λ i h. let z : ⊥ = omega arith in absurd z)),
         ),
       ),
     )
 
 loop-holds : tie.Need-loop-holds Inv-loop μ-loop
 loop-holds c =
-    let first = c .before .before .outer-words in
-    let s = c .before .before .before .before .before .before in
-    let tall = s .pre .1 .1 .1 .0 .0 in
-    (omega arith, omega arith, refl, λ i h. first .ensures i (omega arith))
+    let first = c .before .before in
+    let s = first .before .before .before in
+    let tall = s .pre .1 .1 .1 .1 .0 .0 in
+    (omega arith, omega arith, refl, λ i h. first .edge-words .ensures i (omega arith))
+
+abbrev start : tie.At-loop Inv-loop μ-loop → tie.Start Inv-loop μ-loop
+start c = c .before .before .before .before .before .before
 
 -- rows are few
 few : (c : tie.At-loop Inv-loop μ-loop) → c .loop .row + 1 < 16777216
 few c =
-    let s = c .before .before .before .before .before .before .before in
+    let s = start c in
     let small = s .pre .1 .0 in
-    let wide = s .pre .1 .1 .1 .0 .1 in
+    let wide = s .pre .1 .1 .1 .1 .0 .1 in
     let below = c .loop .inv .1 in
     omega (arith, rows-small (s .args .g) (omega arith))
 
@@ -72,98 +66,84 @@ add-loop c =
     omega arith
 
 -- the work buffer keeps its length
-long-at : (c : tie.At-loop Inv-loop μ-loop) → size (c .before .before .before .before .before .before .before .args .g)
-    ≤ length (c .loop .work)
+kept : (c : tie.At-loop Inv-loop μ-loop) → length (c .loop .work) ≡ length (start c .args .work .now)
+kept c = c .loop .inv .2 ∙ c .before .before .before .edge-words .kept .1 .1 .1 .1 .1 .0
+
+long-at : (c : tie.At-loop Inv-loop μ-loop) → size (start c .args .g) ≤ length (c .loop .work)
 long-at c =
-    let s = c .before .before .before .before .before .before .before in
-    let long = s .pre .1 .1 .0 in
-    let same = c .loop .inv .2 in
-    let same₀ = c .before .before .before .outer-words .kept .1 .1 .1 .1 .0 in
+    let long = start c .pre .1 .1 .0 in
+    let same = kept c in
     omega arith
 
 seed-row-requires : tie.Need-seed-row-requires Inv-loop μ-loop
 seed-row-requires c κs =
-    let at = c .before .before .before in
-    let s = at .before .before .before .before .before .before .before in
-    let test = c .before .before .loop-test .taken in
-    let table = at .before .before .before .before .before .choices .ensures in (
+    let at = c .before .before in
+    let s = start at in
+    let test = c .before .loop-test .taken in
+    let place = s .pre .1 .1 .1 .1 in (
       s .pre .0,
       (
         s .pre .1 .0,
-        (long-at at, (table, ((at .loop .inv .0, omega arith, s .pre .1 .1 .1 .0 .1), (at .loop .inv .3, s .pre .1 .1 .1 .1)))),
+        (long-at at, (s .pre .1 .1 .1 .0, ((at .loop .inv .0, omega arith, place .0 .1), (at .loop .inv .3, place .1)))),
       ),
     )
 
 add-row : tie.Need-add-row Inv-loop μ-loop
 add-row c =
-    let h = few (c .before .before .before .before .before .before) in
+    let h = few (c .before .before .before .before .before) in
     omega arith
 
 loop-less : tie.Need-loop-less Inv-loop μ-loop
 loop-less c =
-    let test = c .before .before .before .before .before .loop-test .taken in
+    let test = c .before .before .before .before .loop-test .taken in
     omega arith
 
 loop-again : tie.Need-loop-again Inv-loop μ-loop
 loop-again c =
     let row = c .before .before .seed-row in
-    let at = c .before .before .before .before .before .before in
-    let test = c .before .before .before .before .before .loop-test .taken in
+    let at = c .before .before .before .before .before in
+    let test = c .before .before .before .before .loop-test .taken in
     let same = row .kept .1 .1 .1 .1 .1 .0 in
     (omega arith, omega arith, same ∙ at .loop .inv .2, row .ensures)
 
 -- the last row ends the sheet
 last-row : (c : tie.At-loop Inv-loop μ-loop) →
-    let s = c .before .before .before .before .before .before .before in
+    let s = start c in
     c .loop .row * s .args .g .cols + s .args .g .cols ≤ size (s .args .g)
-last-row c = let s = c .before .before .before .before .before .before .before in row-whole (s .args .g) (c .loop .row) (c .loop .inv .1)
+last-row c = row-whole (start c .args .g) (c .loop .row) (c .loop .inv .1)
 
-mul-outer-words : tie.Need-mul-outer-words Inv-loop μ-loop
-mul-outer-words c =
+mul-edge-words : tie.Need-mul-edge-words Inv-loop μ-loop
+mul-edge-words c =
     let at = c .before in
-    let small = at .before .before .before .before .before .before .before .pre .1 .0 in
+    let small = start at .pre .1 .0 in
     omega (arith, last-row at)
 
-add-outer-words-2 : tie.Need-add-outer-words-2 Inv-loop μ-loop
-add-outer-words-2 c =
+add-edge-words-2 : tie.Need-add-edge-words-2 Inv-loop μ-loop
+add-edge-words-2 c =
     let at = c .before in
-    let small = at .before .before .before .before .before .before .before .pre .1 .0 in
+    let small = start at .pre .1 .0 in
     omega (arith, last-row at)
 
-outer-words-requires-2 : tie.Need-outer-words-requires-2 Inv-loop μ-loop
-outer-words-requires-2 c κs =
+edge-words-requires-2 : tie.Need-edge-words-requires-2 Inv-loop μ-loop
+edge-words-requires-2 c κs =
     let at = c .before .before in
-    let s = at .before .before .before .before .before .before .before in
+    let s = start at in
     let len = s .pre .0 in
-    let wide = s .pre .1 .1 .1 .0 .1 in
-    let left = c .before .loop-test .left in
-    let below = at .loop .inv .1 in (
-      s .pre .0,
-      (
-        s .pre .1 .0,
-        (
-          long-at at,
-          (
-            (omega (arith, last-row at), omega arith),
-            ((λ i h k. last-border (s .args .g) (at .loop .row) (omega arith) i (omega arith) (omega arith)), at .loop .inv .3),
-          ),
-        ),
-      ),
+    let wide = s .pre .1 .1 .1 .1 .0 .1 in (
+      len,
+      (s .pre .1 .0, (long-at at, (s .pre .1 .1 .1 .0, ((omega (arith, last-row at), omega arith), at .loop .inv .3)))),
     )
 
 same-length : tie.Need-same-length Inv-loop μ-loop
 same-length c =
-    let last = c .before .before .outer-words2 in
+    let last = c .before .before .edge-words2 in
     let at = c .before .before .before .before .before in
-    let first = at .before .before .before .outer-words in
-    last .kept .1 .1 .1 .1 .0 ∙ at .loop .inv .2 ∙ first .kept .1 .1 .1 .1 .0
+    last .kept .1 .1 .1 .1 .1 .0 ∙ kept at
 
 returns : tie.Need-returns Inv-loop μ-loop
 returns c =
-    let at = c .before .before .before .before .before in
-    let s = at .before .before .before .before .before .before .before in
-    let len = s .pre .0 in
-    λ i h. c .before .before .outer-words2 .ensures i (omega arith)
+    let len = start (c .before .before .before .before .before) .pre .0 in
+    λ i h. c .before .before .edge-words2 .ensures i (omega arith)
 
 pub seed-rows-spec : {M : Type 1} → statement M
 seed-rows-spec =
@@ -171,17 +151,16 @@ seed-rows-spec =
     (tie.spec
     Inv-loop
     μ-loop
-    choices-requires
-    add-outer-words
-    outer-words-requires
+    add-edge-words
+    edge-words-requires
     loop-holds
     add-loop
     seed-row-requires
     add-row
     loop-less
     loop-again
-    mul-outer-words
-    add-outer-words-2
-    outer-words-requires-2
+    mul-edge-words
+    add-edge-words-2
+    edge-words-requires-2
     same-length
     returns)

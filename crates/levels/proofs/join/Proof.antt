@@ -67,10 +67,10 @@ beside-level-zero-requires c κs =
     let on = s .pre .1 .1 .1 .1 .0 in
     let left = c .before .if2 .left in
     let some : 0 < key .key .result = omega arith in
-    let inner =
+    let within =
     joining-within (a .g) (a .elevations .now) (s .pre .0) (a .half) (a .work .now) (a .cell) (a .tail) on (s .pre .1 .1 .1 .1 .1 .0)
     (key .before .before .if1 .left) (is-data key some) in
-    (s .pre .0, (s .pre .1 .0, (omega arith, (on, (inner, (height key, (some, s .pre .1 .1 .1 .1 .1 .1)))))))
+    (s .pre .0, (s .pre .1 .0, (omega arith, (on, (within, (height key, (some, s .pre .1 .1 .1 .1 .1 .1)))))))
 
 same-length : tie.Need-same-length
 same-length c = search needs

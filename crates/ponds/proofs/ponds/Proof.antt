@@ -1,4 +1,4 @@
--- 5 to 8, the columns' 8, 9, and then the ponds.
+-- 5 to 8 with 17, the columns' 8, 9, and then the ponds.
 use native.Mathlib.Omega.{arith}
 use Rattle.checks.proofs.Asked.{says-no, says-yes}
 use Rattle.ponds.proofs.Promise.{promise-first, promise-columns, promise-room, promise-settled, cells-few, sizes, ponds-long}
@@ -7,13 +7,13 @@ use borrow.Author.Needs.{needs}
 use Rattle.ponds.proofs.ponds.Statement.{statement}
 use Rattle.ponds.proofs.ponds.Tie as tie
 
-sheets-requires : tie.Need-sheets-requires
-sheets-requires c κs = search needs
+outlets-requires : tie.Need-outlets-requires
+outlets-requires c κs = search needs
 
 returns : tie.Need-returns
 returns c =
     let a = c .before .before .before .before .before .before .before .args in
-    let q = c .before .before .sheets in
+    let q = c .before .before .outlets in
     promise-first (a .g) (a .elevations .now) (a .ponds .now) (a .level .now) (a .cells .now) (a .volume .now) (a .work .now) (q .result)
     (q .ensures) (c .if1 .taken)
 
@@ -23,7 +23,7 @@ both-have-requires c κs = search needs
 returns-2 : tie.Need-returns-2
 returns-2 c =
     let a = c .before .before .before .before .before .before .before .before .before .args in
-    let q = c .before .before .before .before .sheets in
+    let q = c .before .before .before .before .outlets in
     promise-columns (a .g) (a .elevations .now) (a .ponds .now) (a .level .now) (a .cells .now) (a .volume .now) (a .work .now)
     (q .result) (q .ensures)
     (c .before .before .if1 .left) (says-no (c .before .both-have .ensures) (c .if2 .taken))
@@ -31,7 +31,7 @@ returns-2 c =
 has-room-requires : tie.Need-has-room-requires
 has-room-requires c κs =
     let a = c .before .before .before .before .before .before .before .before .before .args in
-    let q = c .before .before .before .before .sheets in
+    let q = c .before .before .before .before .outlets in
     let h = cells-few (a .g) (a .elevations .now) (a .ponds .now) (a .level .now) (a .cells .now) (a .volume .now) (a .work .now)
     (q .result) (q .ensures) (c .before .before .if1 .left) in
     omega arith
@@ -39,7 +39,7 @@ has-room-requires c κs =
 returns-3 : tie.Need-returns-3
 returns-3 c =
     let a = c .before .before .before .before .before .before .before .before .before .before .before .args in
-    let q = c .before .before .before .before .before .before .sheets in
+    let q = c .before .before .before .before .before .before .outlets in
     promise-room (a .g) (a .elevations .now) (a .ponds .now) (a .level .now) (a .cells .now) (a .volume .now) (a .work .now) (q .result)
     (q .ensures)
     (c .before .before .before .before .if1 .left)
@@ -50,7 +50,7 @@ settle-requires : tie.Need-settle-requires
 settle-requires c κs =
     let b = c .before .before .before .before .before in
     let a = b .before .before .before .before .before .before .before .before .before .before .before .args in
-    let q = b .before .before .before .before .before .before .sheets in
+    let q = b .before .before .before .before .before .before .outlets in
     let z = b .before .before .before .before .if1 .left in
     let y = says-yes (b .before .before .before .both-have .ensures) (b .before .before .if2 .left) in
     let r = says-yes (b .before .has-room .ensures) (b .if3 .left) in (
@@ -83,7 +83,7 @@ returns-4 : tie.Need-returns-4
 returns-4 c =
     let b = c .before .before .before .before .before .before .before .before .before .before .before .before .before .before .before in
     let a = b .before .before .before .before .before .before .before .before .before .before .before .args in
-    let q = b .before .before .before .before .before .before .sheets in
+    let q = b .before .before .before .before .before .before .outlets in
     let z = b .before .before .before .before .if1 .left in
     let y = says-yes (b .before .before .before .both-have .ensures) (b .before .before .if2 .left) in
     let r = says-yes (b .before .has-room .ensures) (b .if3 .left) in
@@ -95,7 +95,7 @@ pub ponds-spec : {M : Type 1} → statement M
 ponds-spec =
     tie.close
     (tie.spec
-    sheets-requires
+    outlets-requires
     returns
     both-have-requires
     returns-2

@@ -1,33 +1,46 @@
--- The ponds are found, and listed where there is room.
+-- The flood answers 18; after a yes its words are those of the filled sheet.
+use mathlib.Core.Path.{_≡_, sym, _∙_}
 use native.Mathlib.Omega.{arith}
+use Rattle.grid.specs.Sheet.{size}
+use Rattle.checks.proofs.Questions.{stranded-≤}
 use Rattle.pond_numbers.proofs.Numbering.{sizes-same}
-use Rattle.ponds.proofs.Promise.{settled-no, settled-yes}
+use Rattle.ponds.proofs.Promise.{settled-stranded, settled-reached}
 use borrow.Author.Needs.{needs}
 use Rattle.ponds.proofs.settle.Statement.{statement}
 use Rattle.ponds.proofs.settle.Tie as tie
 
-find-requires : tie.Need-find-requires
-find-requires c κs = search needs
+fill-sheet-requires : tie.Need-fill-sheet-requires
+fill-sheet-requires c κs = search needs
 
-cast-if1 : tie.Need-cast-if1
-cast-if1 c = search needs
+cast-t13 : tie.Need-cast-t13
+cast-t13 c = search needs
 
 same-length : tie.Need-same-length
 same-length c = search needs
 
 returns : tie.Need-returns
 returns c =
-    let s = c .before .before .before .before .before .before .before .before .before in
+    let b = c .before .before .before in
+    let f = b .fill-sheet in
+    let s = b .before .before .before .before .before .before in
     let a = s .args in
-    let f = c .before .before .before .find in
-    settled-no (a .g) (a .elevations .now) _ (f .result) (sizes-same (s .pre .0) (f .kept .1 .1 .0)) (f .ensures) (c .if1 .taken)
+    let long = s .pre .0 .long in
+    let h = c .if1 .taken in
+    settled-stranded (a .g) (a .elevations .now) (f .ensures .1 .1) (f .result) (f .ensures .0) (omega arith)
 
-list-requires : tie.Need-list-requires
-list-requires c κs =
-    let s = c .before .before .before .before .before .before .before .before .before .before .before .before .before .before in
-    let f = c .before .before .before .before .before .before .before .before .find in
-    let h = c .before .before .before .before .before .if1 .left in
-    (sizes-same (s .pre .0) (f .kept .1 .1 .0), (f .ensures, (s .pre .1 .0, (omega arith, s .pre .1 .1))))
+list-found-requires : tie.Need-list-found-requires
+list-found-requires c κs =
+    let e = c .before .before .before .before .before in
+    let b = e .before .before .before in
+    let f = b .fill-sheet in
+    let s = b .before .before .before .before .before .before in
+    let a = s .args in
+    let long = s .pre .0 .long in
+    let h = e .if1 .left in
+    let most = stranded-≤ (a .g) (a .elevations .now) in
+    let first = f .ensures .0 in
+    let none : f .result ≡ size (a .g) = omega arith in
+    (sizes-same (s .pre .0) (f .kept .1 .1 .0), (s .pre .1 .0, (s .pre .1 .1, (f .ensures .1 .1, f .ensures .1 .0 none))))
 
 same-length-2 : tie.Need-same-length-2
 same-length-2 c = search needs
@@ -46,24 +59,25 @@ same-length-6 c = search needs
 
 returns-2 : tie.Need-returns-2
 returns-2 c =
-    let l = c .before .before .before .before .before .before .before .list in
-    let b = c .before .before .before .before .before .before .before .before .before .before .before .before .before in
-    let f = b .before .before .before .find in
-    let s = b .before .before .before .before .before .before .before .before .before in
+    let l = c .before .before .before .before .before .before .before .before .before in
+    let e = l .before .before .before .before .before .before in
+    let b = e .before .before .before in
+    let f = b .fill-sheet in
+    let s = b .before .before .before .before .before .before in
     let a = s .args in
-    let h = b .if1 .left in
-    settled-yes (a .g) (a .elevations .now) _ (f .result) (sizes-same (s .pre .0) (f .kept .1 .1 .0)) (f .ensures) (omega arith)
-    (s .pre .1 .1) (l .ensures .0) (l .ensures .1)
+    let long = s .pre .0 .long in
+    let h = e .if1 .left in
+    settled-reached (a .g) (a .elevations .now) (f .ensures .1 .1) (f .result) (f .ensures .0) (omega arith) (l .list-found .ensures)
 
 pub settle-spec : {M : Type 1} → statement M
 settle-spec =
     tie.close
     (tie.spec
-    find-requires
-    cast-if1
+    fill-sheet-requires
+    cast-t13
     same-length
     returns
-    list-requires
+    list-found-requires
     same-length-2
     same-length-3
     same-length-4

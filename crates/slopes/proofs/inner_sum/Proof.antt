@@ -7,6 +7,7 @@ use mir.Val.{toZ, ofZ}
 use mir.Facts.{toZ-ofZ}
 use borrow.Author.Needs.{sfits-of}
 use Rattle.cells.proofs.Keys.{Known, known-read}
+use Rattle.grid_laws.proofs.Neighbours.{inner-neighbour}
 use Rattle.slopes.specs.Steepest.{markedIn}
 use Rattle.slopes.proofs.Drops.{marked-is}
 use borrow.Author.Needs.{needs}
@@ -39,9 +40,10 @@ returns c =
     let q : toZ w16 (ofZ w16 (getD e i (pos 0))) ≡ getD e i (pos 0) = toZ-ofZ (sfits-of (sk .before .short-key-arg .given)) in
     let len = s .pre .0 in
     let on = s .pre .1 .1 .0 in
+    let r = s .pre .1 .1 .1 .0 in
     let k = known-read e i (sk .short-key .result) (omega arith) (subst (Known (sk .short-key .result)) q (sk .short-key .ensures)) in
     c .marked-of .ensures ∙ ap₂ (markedIn g) (k .0) (ko .keys-of .ensures .0)
-    ∙ marked-is g e i (ko .keys-of .ensures .1) len (k .1 .1 .0)
+    ∙ marked-is g e i (ko .keys-of .ensures .1) (λ p h. inner-neighbour g i p h (r .0) (r .1) (r .2) (r .3) .1) (k .1 .1 .0)
 
 pub inner-sum-spec : {M : Type 1} → statement M
 inner-sum-spec =

@@ -8,18 +8,18 @@ use mir.Val.{toZ, ofZ}
 use mir.Facts.{toZ-ofZ}
 use borrow.Author.Needs.{sfits-of}
 use Rattle.cells.proofs.Keys.{Known, known-read}
-use Rattle.slopes.proofs.Drops.{Gathered, gathered-none, gathered-more, gathered-all}
+use Rattle.slopes.proofs.Drops.{Gathered, gathered-none, gathered-more, keys-all}
 use Rattle.slopes.proofs.keys_of.Statement.{statement}
 use Rattle.slopes.proofs.keys_of.Tie as tie
 
 abbrev Inv-loop : tie.InvT-loop
-Inv-loop g offsets elevations cell keys₀ p₀ keys p = Gathered g elevations cell keys p
+Inv-loop g offsets elevations cell keys₀ p₀ keys p = Gathered g elevations cell (λ k. k) keys p
 
 abbrev μ-loop : tie.MeasureT-loop
 μ-loop g offsets elevations cell keys₀ p₀ keys p = 8 - p
 
 loop-holds : tie.Need-loop-holds Inv-loop μ-loop
-loop-holds c = gathered-none (c .args .g) (c .args .elevations .now) (c .args .cell) _ refl
+loop-holds c = gathered-none (c .args .g) (c .args .elevations .now) (c .args .cell) (λ k. k) _ refl
 
 beside-requires : tie.Need-beside-requires Inv-loop μ-loop
 beside-requires c κs =
@@ -76,8 +76,8 @@ loop-again c =
     let m = b .beside .result in
     let q : toZ w16 (ofZ w16 (getD e m (pos 0))) ≡ getD e m (pos 0) = toZ-ofZ (sfits-of (c .before .short-key-arg .given)) in
     let k = known-read e m (c .short-key .result) (there b) (subst (Known (c .short-key .result)) q (c .short-key .ensures)) in
-    gathered-more (s .args .g) e (s .args .cell) (l .loop .keys) (l .loop .p) m (c .short-key .result) (n .loop-test .taken) (l .loop .inv)
-    (b .beside .ensures .0) k
+    gathered-more (s .args .g) e (s .args .cell) (λ k. k) (l .loop .keys) (l .loop .p) m (c .short-key .result) (c .short-key .result)
+    (n .loop-test .taken) (l .loop .inv) (b .beside .ensures .0) k refl
 
 returns : tie.Need-returns Inv-loop μ-loop
 returns c =
@@ -88,8 +88,8 @@ returns c =
     let a = l .loop .inv .within in
     let b = c .loop-test .left in
     let q : l .loop .p ≡ 8 = omega arith in
-    let all = subst (Gathered g e (s .args .cell) (l .loop .keys)) q (l .loop .inv) in
-    (gathered-all g e (s .args .cell) (l .loop .keys) all, all .known)
+    let all = subst (Gathered g e (s .args .cell) (λ k. k) (l .loop .keys)) q (l .loop .inv) in
+    (keys-all g e (s .args .cell) (l .loop .keys) all, all .known)
 
 pub keys-of-spec : {M : Type 1} → statement M
 keys-of-spec =

@@ -1,0 +1,29 @@
+use mathlib.Core.Path.{_∙_, ap₂}
+use Rattle.slopes.specs.Steepest.{steepestIn}
+use Rattle.slopes.proofs.Drops.{edge-is}
+use borrow.Author.Needs.{needs}
+use Rattle.slopes.proofs.edge_sum.Statement.{statement}
+use Rattle.slopes.proofs.edge_sum.Tie as tie
+
+key-at-requires : tie.Need-key-at-requires
+key-at-requires c κs = search needs
+
+cast-own : tie.Need-cast-own
+cast-own c = search needs
+
+edge-keys-requires : tie.Need-edge-keys-requires
+edge-keys-requires c κs = search needs
+
+steepest-of-requires : tie.Need-steepest-of-requires
+steepest-of-requires c κs = search needs
+
+returns : tie.Need-returns
+returns c =
+    let e = c .before .before in
+    let k = e .before in
+    let s = k .before in
+    c .steepest-of .ensures ∙ ap₂ (steepestIn (s .args .g)) (k .key-at .ensures .0) (e .edge-keys .ensures .0)
+    ∙ edge-is (s .args .g) (s .args .elevations .now) (s .args .cell) (e .edge-keys .ensures .1) (k .key-at .ensures .1 .1 .0)
+
+pub edge-sum-spec : {M : Type 1} → statement M
+edge-sum-spec = tie.close (tie.spec key-at-requires cast-own edge-keys-requires steepest-of-requires returns)
