@@ -19,9 +19,9 @@
  * outlets (fill, ponds, directions, drain, culvert) take a number from 0 to 15 for the sides that are closed: west 1, east 2,
  * north 4, south 8, added up; with 0 every side is open. A border cell is an outlet only through an open side by a straight
  * step, or beside a void; one open side is enough for a cell in the sheet's corner. Its code is the first of 32, 2, 128, 8, 1, 4,
- * 16, 64 that is such a step. A void on a closed side is outside like any other. A sheet with a data cell that has no chain to an
- * outlet, as one with four closed sides and no void, is refused with 18. The calls that see codes only know no sides: there a
- * route ends at any step off the sheet.
+ * 16, 64 whose step is one of these. A void on a closed side is outside like any other. A sheet with a data cell that has no chain
+ * to an outlet, as one with four closed sides and no void, is refused with 18. All other calls know no sides: those that see codes
+ * only end a route at any step off the sheet.
  *
  * Sheets. Rows and columns are each from 1 to 4,000. The cell in row r and column q, both from 0, has the number
  * r * cols + q, and stands at that place of each sheet. Elevations are signed 16-bit numbers, -32768 the void.

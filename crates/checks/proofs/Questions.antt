@@ -1,4 +1,4 @@
--- "11. Is each code 0 or one of the eight?" "12. Does every route end?": the answer by the first cell for which it is no.
+-- "11. Is each code 0 or one of the eight?" "12. Does every route end?", and 18: the answer by the first cell for which it is no.
 use mathlib.Core.Path.{_≡_, refl, _∙_}
 use mathlib.Core.Bool.{Bool, true, false, _||_}
 use mathlib.Core.Logic.{⊎-elim}
@@ -48,7 +48,7 @@ module _ (g : Grid) (codes : List ℕ) (later : Answer) where
   codes-yes e q =
       cell-yes 11 (firstBadCode g codes) g (askCell 12 g (firstEndless g codes) later) e ∙ cell-yes 12 (firstEndless g codes) g later q
 
--- ---- these are asked when the work buffer may be written: a no is above 9
+-- ---- these are asked when the work buffer may be written: a no is above 9, and not 17
 
 abbrev pub Late : Answer → Type 0
 Late a = T (upToNine (a .number)) → ⊥

@@ -67,12 +67,15 @@ module _ (g : Grid) (e : List ℤ) (c₀ w₀ : List ℕ) (r : Answer)
           answer = q ∙ no ∙ answered-yes before-18 answered z (askReach g e (askCell 10 g (firstUnlevelled g e) accepted));
           result =
               codes ∙ cond-false (directions g e) c₀ (ne-eqb first (size g) other)
-              ∙ sym (cond-false (directions g e) c₀ (ne-eqb (a .number) 0 (subst Above (sym q) (reach-above g e (refusal 10 first) (omega arith)))));
+              ∙ sym (cond-false (directions g e) c₀ (ne-eqb (a .number) 0 (subst Above (sym q) above)));
           work = record { same-length = same; untouched = λ t. absurd (subst Late (sym q) (reach-late g e (refusal 10 first) late-10) t) };
         }
       where
         Above : Answer → Type 0
         Above a = a .number ≡ 0 → ⊥
+
+        above : Above (askReach g e (refusal 10 first))
+        above = reach-above g e (refusal 10 first) (λ q. omega arith)
 
         late-10 : Late (refusal 10 first)
         late-10 = number-late (omega arith) (λ q. omega arith)

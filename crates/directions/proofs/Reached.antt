@@ -1,6 +1,6 @@
 -- Where every data cell has a level, the codes lead each to an outlet, so none is stranded: a yes to question 10 is one to 18.
 use mathlib.Core.Path.{_≡_, refl}
-use mathlib.Core.Bool.{true, false, _&&_}
+use mathlib.Core.Bool.{true, _&&_}
 use mathlib.Core.Logic.{⊎-elim}
 use mathlib.Core.List.{List}
 use Prim.Native.Nat.{ℕ, zero, suc, _<_}

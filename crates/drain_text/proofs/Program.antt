@@ -16,7 +16,8 @@ use Rattle.grid.specs.declared.Answer.{Answer}
 use Rattle.grid.specs.declared.Dimensions.{Dimensions}
 use Rattle.grid.specs.Sheet.{gridOf, closedGrid, size}
 use Rattle.grid.specs.Outlet.{firstStranded}
-use Rattle.grid.specs.Checks.{refusal, accepted, ask, inRange, askSize, allHave, askLengths, askSides, askOutlets, askWork, askReach, drainCheck}
+use Rattle.grid.specs.Checks.{refusal, accepted, ask, inRange, askSize, allHave, askLengths, askSides, askOutlets, askWork, askReach}
+use Rattle.grid.specs.Checks.{drainCheck}
 use Rattle.grid.specs.Frames.{textGrid, isShaped, firstBadByte, readCheck, textSheet, resultText, refusalText, drainText, programText}
 use Rattle.grid.specs.Promises.{ReadPromise, DrainPromise}
 use Rattle.grid_laws.proofs.Below.{length-table}

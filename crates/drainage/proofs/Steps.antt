@@ -1,5 +1,5 @@
--- From step to step, for an input sheet e of which no data cell is stranded: the filled sheet has every level, so its directions are written; their codes are all of the
--- eight or 0, and their routes end.
+-- From step to step, for an input sheet e of which no data cell is stranded: the filled sheet has every level, so its directions are
+-- written; their codes are all of the eight or 0, and their routes end.
 use mathlib.Core.Path.{_≡_, sym, _∙_, ap, subst}
 use mathlib.Core.Bool.{cond}
 use mathlib.Core.List.{List}

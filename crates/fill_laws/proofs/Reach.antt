@@ -3,14 +3,12 @@ use mathlib.Core.Path.{_≡_}
 use mathlib.Core.Bool.{true, false, not, _&&_}
 use mathlib.Core.Logic.{⊎-elim}
 use mathlib.Core.List.{List}
-use Prim.Native.Nat.{ℕ, _<_}
+use Prim.Native.Nat.{ℕ}
 use lib.ListN.{length, getD}
 use lib.IntN.{ℤ}
 use Rattle.grid.specs.declared.Grid.{Grid}
 use Rattle.grid.specs.Sheet.{size, isData, DataCell}
-use Rattle.grid.specs.Joined.{joined}
-use Rattle.grid.specs.Outlet.{isOutlet, Outlet, drained, firstStranded}
-use Rattle.grid.specs.Guarantee.{PathToOutlet}
+use Rattle.grid.specs.Outlet.{isOutlet, drained, firstStranded}
 use Rattle.grid.specs.Sides.{DrainedByChains}
 use Rattle.grid_laws.proofs.Tests.{test, T-true, true-T, and-false-left, and-false-right, and-rest-false, not-of-true, not-is-false}
 use Rattle.grid_laws.proofs.Below.{first-all, first-none}

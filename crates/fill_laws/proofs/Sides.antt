@@ -1,15 +1,15 @@
--- "Closed 0" is document 01's sheet: a step off the sheet at a corner goes with a straight one, which comes first in the order.
+-- With no side closed a sheet is document 01's: a step off the sheet at a corner goes with a straight one, which comes first in the order.
 use mathlib.Core.Path.{_≡_, sym, _∙_, ap, ap₂}
 use mathlib.Core.Bool.{Bool, true, false, not, cond, _&&_, _||_}
 use mathlib.Core.Logic.{⊎-elim}
 use mathlib.Core.List.{List}
-use Prim.Native.Nat.{ℕ, zero, suc, _<_, _≤_}
+use Prim.Native.Nat.{ℕ, zero, suc, _<_}
 use native.Mathlib.Decide.{ℕ-discrete, decLt}
 use native.Mathlib.Omega.{arith}
 use lib.Dec.{eqb}
-use lib.ListN.{length, getD}
+use lib.ListN.{getD}
 use lib.IntN.{ℤ}
-use borrow.Author.Tests.{eq-eqb, ne-eqb, eqb-true}
+use borrow.Author.Tests.{eq-eqb, eqb-true}
 use Rattle.grid.specs.declared.Grid.{Grid}
 use Rattle.grid.specs.Below.{table, anyBelow, firstBelow}
 use Rattle.grid.specs.Sheet.{size, void, top, at, isData, neighbour, codeAt}
@@ -18,8 +18,8 @@ use Rattle.grid.specs.Fill.{startAt, passAt, passes, filled}
 use Rattle.grid.specs.Directions.{hasDescent, steepestSum, choice, isLevelZero, levelPassAt, levelPasses, levels, flatSum}
 use Rattle.grid.specs.Directions.{directionAt, directions, firstUnlevelled}
 use Rattle.grid.specs.Sides.{baseLeaves, baseOutlet, baseOutletCode, baseStartAt, basePasses, baseFilled, baseLevelPasses, baseLevels}
-use Rattle.grid.specs.Sides.{baseDirectionAt, baseDirections, baseUnlevelled, SameAsBase, OpenSides}
-use Rattle.grid_laws.proofs.Tests.{test, true-false, or-left, or-right, or-cases, not-true-false, same-test}
+use Rattle.grid.specs.Sides.{baseDirectionAt, baseDirections, baseUnlevelled, OpenSides}
+use Rattle.grid_laws.proofs.Tests.{true-false, or-left, or-right, or-cases, not-true-false, same-test}
 use Rattle.grid_laws.proofs.Below.{any-of, some-of-any, table-ext, first-is, first-none, first-≤, first-found, first-before}
 use Rattle.grid_laws.proofs.Outlets.{leaves-off, leaves-on, order-small, off-straight, straight-open}
 use Rattle.fill_laws.proofs.Left.{open-reach}

@@ -1,6 +1,4 @@
--- Rows   where the rows lie, and which cells of a row lie within the border
 -- Seeds  the word of a cell of level 0, and the first data cell without a level
 -- Flats  the sum over the equal neighbours one level lower, and the code of a cell
-pub mod Rows
 pub mod Seeds
 pub mod Flats

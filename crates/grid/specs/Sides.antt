@@ -1,9 +1,9 @@
--- What is shown of closed sides (document 02, Wish 3): two named types, each with a law.
+-- What is shown of closed sides (document 02, Wish 3): named types, each with a law.
 use mathlib.Core.Path.{_≡_}
 use mathlib.Core.Bool.{Bool, true, false, not, cond, _&&_, _||_}
 use mathlib.Core.List.{List}
 use Prim.Native.Nat.{ℕ, zero, suc}
-use lib.Dec.{eqb}
+use lib.Dec.{T, eqb}
 use lib.ListN.{length, getD}
 use lib.IntN.{ℤ}
 use Rattle.grid.specs.declared.Grid.{Grid}
@@ -12,6 +12,7 @@ use Rattle.grid.specs.Sheet.{size, void, top, at, isData, neighbour, cod
 use Rattle.grid.specs.Outlet.{isOutlet, outletOrder, outletCode, drained, firstStranded}
 use Rattle.grid.specs.Fill.{passAt, filled}
 use Rattle.grid.specs.Directions.{hasDescent, steepestSum, choice, levelPassAt, flatSum, directions, firstUnlevelled}
+use Rattle.grid.specs.Culvert.{opened, isLevelFor}
 use Rattle.grid.specs.Guarantee.{PathToOutlet}
 
 -- ---- 18: `drained` tells exactly the cells with a chain, as document 01 has it, to an outlet. The elevations are rows × columns: 7 is
@@ -21,6 +22,12 @@ DrainedByChains =
     (g : Grid) (e : List ℤ) → length e ≡ size g → (c : ℕ) →
     (getD (drained g e) c false ≡ true → (l : List ℕ) × PathToOutlet g e c l)
     × ((l : List ℕ) → PathToOutlet g e c l → getD (drained g e) c false ≡ true)
+
+-- ---- opening a cell moves neither voids nor outlets, so 18 of the opened sheet is 18 of the sheet handed in, after a yes to 15 and 16
+abbrev pub OpenedAlike : Type 0
+OpenedAlike =
+    (g : Grid) (e : List ℤ) (cell : ℕ) (level : ℤ) → T (isData e cell) → T (isLevelFor e cell level) →
+    ((c : ℕ) → isOutlet g (opened e cell level) c ≡ isOutlet g e c) × (firstStranded g (opened e cell level) ≡ firstStranded g e)
 
 -- ---- document 01's rule, as it stood before sides could be closed, and what is worked out by it
 
@@ -67,8 +74,8 @@ baseDirections g e = let l : List ℕ = baseLevels g e in table (size g) (baseDi
 unfoldable pub baseUnlevelled : Grid → List ℤ → ℕ
 baseUnlevelled g e = let l : List ℕ = baseLevels g e in firstBelow (size g) (λ c. isData e c && eqb (getD l c 0) 0)
 
--- "Closed 0" is document 01's sheet: in each cell the same outlets and the same outlet's codes, so the same filled sheet, the same codes
--- and question 10; and 18 is never answered
+-- with no side closed a sheet is document 01's: in each cell the same outlets and the same outlet's codes, so the same filled sheet, the
+-- same codes and question 10; and 18 is never answered
 pub record SameAsBase (g : Grid) (e : List ℤ) : Type 0 where
   pub outlets : (c : ℕ) → isOutlet g e c ≡ baseOutlet g e c
   pub outlet-codes : (c : ℕ) → outletCode g e c ≡ baseOutletCode g e c

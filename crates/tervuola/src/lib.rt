@@ -156,8 +156,8 @@ pub extern "C" fn tervuola_culvert(
     labels: &mut [u32],
     work: &mut [u32],
 ) -> Answer
-    ensures { λ r. ⌜ CulvertPromise (closedGrid rows cols sides) (now (elevations .entry)) cell level (now (filled .entry)) (now (filled .exit))
-        (now (codes .entry)) (now (codes .exit)) (now (counts .entry)) (now (counts .exit)) (now (labels .entry)) (now (labels .exit))
+    ensures { λ r. ⌜ CulvertPromise (closedGrid rows cols sides) (now (elevations .entry)) cell level (now (filled .entry))
+        (now (filled .exit)) (now (codes .entry)) (now (codes .exit)) (now (counts .entry)) (now (counts .exit)) (now (labels .entry)) (now (labels .exit))
         (now (work .entry)) (now (work .exit)) r ⌝ }
 {
     let g = Grid {

@@ -1,4 +1,3 @@
-use mathlib.Core.Path.{sym}
 use Rattle.cells.proofs.Codes.{side-above, corner-shut, straight-by}
 use borrow.Author.Needs.{needs}
 use Rattle.cells.proofs.is_open.Statement.{statement}

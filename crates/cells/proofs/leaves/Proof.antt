@@ -1,8 +1,8 @@
-use mathlib.Core.Path.{_≡_, sym, _∙_, ap, subst}
+use mathlib.Core.Path.{sym, _∙_, ap, subst}
 use Prim.Native.Nat.{ℕ}
 use native.Mathlib.Omega.{arith}
 use lib.IntN.{ℤ}
-use Rattle.grid.specs.Sheet.{size, void, at, neighbour}
+use Rattle.grid.specs.Sheet.{void, at, neighbour}
 use lib.Signed.{_≤ℤ_}
 use Rattle.grid_laws.proofs.Neighbours.{neighbour-≤}
 use Rattle.grid_laws.proofs.Outlets.{leaves-off}

@@ -1,7 +1,6 @@
 -- A stranded cell is the no of 18; without one 18 is a yes, and 10 stands.
-use mathlib.Core.Path.{_≡_, sym, _∙_, ap}
+use mathlib.Core.Path.{sym, _∙_, ap}
 use native.Mathlib.Omega.{arith}
-use Rattle.grid.specs.Sheet.{size}
 use Rattle.grid.specs.Checks.{refusal}
 use Rattle.checks.proofs.Questions.{stranded-≤, reach-no, reach-yes}
 use borrow.Author.Needs.{needs}

@@ -1,6 +1,5 @@
 -- The words are those of the sheet that the keys spell, so what is unloaded is its filled sheet.
 use mathlib.Core.Path.{_≡_, sym, _∙_}
-use Prim.Native.Nat.{_<_}
 use native.Mathlib.Omega.{arith}
 use borrow.Author.Tests.{eq-eqb, ne-eqb}
 use Rattle.grid.specs.Sheet.{size}

@@ -1,5 +1,5 @@
 -- Sort, flood, and the first cell that the flood has not come to.
-use mathlib.Core.Path.{_≡_, sym, _∙_}
+use mathlib.Core.Path.{sym, _∙_}
 use native.Mathlib.Omega.{arith}
 use Rattle.fill.proofs.Steps.{front-sorted, none-reached, unreached-first, flooded-words, open-stranded}
 use borrow.Author.Needs.{needs}

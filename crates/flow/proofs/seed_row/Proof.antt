@@ -2,7 +2,7 @@ use mathlib.Core.Path.{_∙_}
 use Prim.Native.Nat.{_+_, _*_, _≤_}
 use native.Mathlib.Omega.{arith}
 use Rattle.grid.specs.Sheet.{size}
-use Rattle.flow.proofs.Rows.{row-on, next-row, within-row}
+use Rattle.cells.proofs.Rows.{row-on, next-row, within-row}
 use borrow.Author.Needs.{needs}
 use Rattle.flow.proofs.seed_row.Statement.{statement}
 use Rattle.flow.proofs.seed_row.Tie as tie

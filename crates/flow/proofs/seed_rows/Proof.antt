@@ -4,7 +4,7 @@ use native.Mathlib.Omega.{arith}
 use lib.ListN.{length}
 use Rattle.grid.specs.Sheet.{size}
 use Rattle.flow.specs.Seeding.{WordsTo}
-use Rattle.flow.proofs.Rows.{rows-small, row-on, row-whole}
+use Rattle.cells.proofs.Rows.{rows-small, row-on, row-whole}
 use Rattle.flow.proofs.seed_rows.Statement.{statement}
 use Rattle.flow.proofs.seed_rows.Tie as tie
 

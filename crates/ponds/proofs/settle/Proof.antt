@@ -1,5 +1,5 @@
 -- The flood answers 18; after a yes its words are those of the filled sheet.
-use mathlib.Core.Path.{_≡_, sym, _∙_}
+use mathlib.Core.Path.{_≡_}
 use native.Mathlib.Omega.{arith}
 use Rattle.grid.specs.Sheet.{size}
 use Rattle.checks.proofs.Questions.{stranded-≤}
