@@ -3,14 +3,16 @@ use mathlib.Core.Path.{_≡_, refl, sym, _∙_, ap, subst}
 use mathlib.Core.Bool.{Bool, true, false, cond, _&&_, _||_}
 use mathlib.Core.Logic.{_⊎_, inl, inr, ⊎-elim}
 use mathlib.Core.List.{List}
-use Prim.Native.Nat.{ℕ, suc, _+_, _-_, _/_, _%_, _≤_, _<_}
+use Prim.Native.Nat.{ℕ, suc, _+_, _-_, _≤_, _<_}
 use native.Mathlib.Omega.{arith}
 use native.Mathlib.Decide.{ℕ-discrete}
 use lib.Dec.{eqb, ltb}
 use lib.ListN.{length, getD}
 use lib.Seq.{getD-take}
-use lib.IntN.{ℤ}
+use lib.IntN.{ℤ, pos}
 use borrow.Author.Tests.{eq-eqb, eqb-true, lt-ltb, ltb-true}
+use mir.Syntax.{w16}
+use mir.Val.{SFits, toZ, ofZ}
 use Rattle.grid.specs.declared.Grid.{Grid}
 use Rattle.grid.specs.Below.{sumBelow}
 use Rattle.grid.specs.Sheet.{size, at, isData, neighbour, codeAt}
@@ -20,14 +22,14 @@ use Rattle.grid_laws.proofs.Tests.{test, and-true, and-left, and-right, same-te
 use Rattle.grid_laws.proofs.Below.{at-table, sum-suc}
 use Rattle.grid_laws.proofs.Neighbours.{at-eight}
 use Rattle.cells.specs.Keys.{levelOf}
-use Rattle.cells.specs.Steps.{Inner}
+use Rattle.cells.proofs.Keys.{Known}
 use Rattle.flow_laws.specs.Words.{wordLevel, levelIn, levelsIn, Levelled}
 use Rattle.flow_laws.proofs.Agree.{equal-on-sheet}
 use Rattle.flow_laws.proofs.Equals.{is-equal, equal-height}
 use Rattle.flow_laws.proofs.Leads.{isBelow, flat-direction, void-code, zero-code-any}
 use Rattle.flow_laws.proofs.Words.{level-one, level-more, word-cases}
-use Rattle.levels.proofs.Keyed.{height-data}
-use Rattle.levels.proofs.Within.{flat-within}
+use Rattle.levels.proofs.Keyed.{height-data, key-read, agrees, data-positive}
+use Rattle.flow.specs.Coding.{CodesTo}
 
 -- ---- two words: one is one level below the other, where it is from `low` on below it
 module _ (near low word : ℕ) (high : 256 ≤ word) (one : word ≡ 256 → low ≡ 1) (more : 256 < word → low + 1 ≡ word) where
@@ -183,8 +185,15 @@ module _ (g : Grid) (e : List ℤ) (len : length e ≡ size g) (work : List ℕ)
     has-level : 1 < getD (levelsIn g work) cell 0
     has-level = let a = own-read in let b = level-more (getD work cell 0) h in omega arith
 
-    pub high-data : isData e cell ≡ true
+    high-data : isData e cell ≡ true
     high-data = L .certified .data-only cell on (let a = has-level in omega arith)
+
+    -- the key that was read is the cell's, and above 0
+    pub high-key : (k : ℕ) → SFits w16 (getD e cell (pos 0)) → Known k (toZ w16 (ofZ w16 (getD e cell (pos 0)))) →
+        (at e cell ≡ levelOf k) × (0 < k)
+    high-key k f K =
+        let known = key-read e cell k (omega arith) f K in
+        (agrees k k (known .0) (known .1 .1 .0) refl, data-positive e cell k (known .0) (known .1 .1 .0) high-data)
 
     not-zero : isLevelZero g e cell ≡ false
     not-zero = ⊎-elim (λ z. absurd (clash z)) (λ z. z) (test (isLevelZero g e cell))
@@ -192,13 +201,10 @@ module _ (g : Grid) (e : List ℤ) (len : length e ≡ size g) (work : List ℕ)
         clash : isLevelZero g e cell ≡ true → ⊥
         clash z = let a = has-level in let b = L .certified .zero-has cell on z in omega arith
 
-    -- where every side is open it lies within the border
-    pub high-within : g .sides ≡ 0 → Inner g (cell / g .cols) (cell % g .cols)
-    high-within sides = flat-within g e cell on high-data not-zero (inl sides)
-
-    pub high-code : choice (flatSum g e (levelsIn g work) cell) ≡ directionAt g e (levelsIn g work) cell
+    -- the code from the sum
+    pub high-code : {sum r : ℕ} → sum ≡ flatSum g e (levelsIn g work) cell → r ≡ choice sum → r ≡ directionAt g e (levelsIn g work) cell
     unfolding isLevelZero
-    high-code = sym (flat-direction g e (levelsIn g work) cell high-data (no-outlet rest) (no-descent rest))
+    high-code s q = q ∙ ap choice s ∙ sym (flat-direction g e (levelsIn g work) cell high-data (no-outlet rest) (no-descent rest))
       where
         rest : (isOutlet g e cell || hasDescent g e cell) ≡ false
         rest = Rattle.grid_laws.proofs.Tests.and-rest-false (isData e cell) (isOutlet g e cell || hasDescent g e cell) high-data not-zero
@@ -208,3 +214,7 @@ module _ (g : Grid) (e : List ℤ) (len : length e ≡ size g) (work : List ℕ)
 
         no-descent : (isOutlet g e cell || hasDescent g e cell) ≡ false → hasDescent g e cell ≡ false
         no-descent q = Rattle.grid_laws.proofs.Tests.or-none-right (isOutlet g e cell) (hasDescent g e cell) q
+
+-- before the first cell there is no code to write
+pub codes-none : (g : Grid) (e : List ℤ) (work codes : List ℕ) → CodesTo g e work 0 codes
+codes-none g e work codes c h = let z : ⊥ = omega arith in absurd z

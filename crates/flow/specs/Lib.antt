@@ -1,1 +1,2 @@
 pub mod Seeding
+pub mod Coding

@@ -1,8 +1,8 @@
 // Flow directions (document 01, "Directions"): from any sheet the code of every cell, in linear time, or the first data cell without a
 // level. First each cell of level 0, an outlet or a cell with a drop above 0, gets its code as its word in the work buffer, row by row;
 // then `levels` finds the other levels; then one scan looks for a data cell without a level; and only when there is none are codes
-// written. Proved by the certificate of `flow_laws`: the words that `levels` leaves hold the levels of the definition, so the code of a
-// flat cell is the choice among its equal neighbours one level lower.
+// written, row by row too. Proved by the certificate of `flow_laws`: the words that `levels` leaves hold the levels of the definition, so
+// the code of a flat cell is the choice among its equal neighbours one level lower.
 use cells::key_at;
 use grid::Grid;
 ghost use mathlib.Core.Path.{_≡_};
@@ -18,6 +18,7 @@ ghost use Rattle.cells.specs.Steps.{Inner, Offsets};
 ghost use Rattle.slopes.specs.Steepest.{choices as choices', innerSum};
 ghost use Rattle.flow_laws.specs.Words.{wordLevel, levelsIn, firstWord, Seeded, Levelled};
 ghost use Rattle.flow.specs.Seeding.{WordsTo, SumsIn};
+ghost use Rattle.flow.specs.Coding.{NoneLacks, CodesTo};
 
 // The word of any cell before the search: an outlet's code, the choice among the largest drops of another data cell, which is 0 for a cell
 // of a flat, and 0 for a void.
@@ -265,7 +266,8 @@ fn with_code(sum: usize, p: usize, chosen: bool) -> usize
     sum
 }
 
-// `flat_sum` for a cell within the border; `k` is its key, and `low` the lowest word of the level below that of `word`.
+// The sum of the codes of the equal neighbours one level lower, for a cell within the border; `k` is the cell's key, `word` its word, and
+// `low` the lowest word of the level below.
 fn flat_sum_inner(
     g: Grid,
     offsets: &[usize; 8],
@@ -332,37 +334,8 @@ fn flat_sum_border(
     sum
 }
 
-// For a cell of level k + 1, whose word is `word`: "the sum of the codes of equal neighbours at level k".
-fn flat_sum(
-    g: Grid,
-    offsets: &[usize; 8],
-    elevations: &[i16],
-    work: &[u32],
-    cell: usize,
-    word: u32,
-) -> usize
-    requires { ⌜ length (now elevations) ≡ size g ⌝ }
-    requires { ⌜ size g < 2 ^ 24 ⌝ }
-    requires { ⌜ size g ≤ length (now work) ⌝ }
-    requires { ⌜ cell < size g ⌝ }
-    requires { ⌜ (g .sides ≡ 0 → Inner g (cell / g .cols) (cell % g .cols)) ⌝ }
-    requires { ⌜ isData (now elevations) cell ≡ true ⌝ }
-    requires { ⌜ word ≡ getD (now work) cell 0 ⌝ }
-    requires { ⌜ 256 ≤ word ⌝ }
-    requires { ⌜ Offsets (g .cols) (now offsets) ⌝ }
-    ensures { λ r. ⌜ r ≡ flatSum g (now (elevations .entry)) (levelsIn g (now (work .entry))) cell ⌝ }
-    ensures { λ r. ⌜ r < 256 ⌝ }
-{
-    let k = cells::key(elevations[cell]);
-    let low = lowest_below(word);
-    if levels::is_within(g, cell) {
-        return flat_sum_inner(g, offsets, elevations, work, cell, k, low, word);
-    }
-    flat_sum_border(g, elevations, work, cell, k, low, word)
-}
-
-// The code of a cell of a sheet on which every data cell has a level.
-fn code_at(
+// The code of a cell within the border of a sheet on which every data cell has a level.
+fn inner_code(
     g: Grid,
     offsets: &[usize; 8],
     elevations: &[i16],
@@ -377,6 +350,7 @@ fn code_at(
     requires { ⌜ cell < size g ⌝ }
     requires { ⌜ Levelled g (now elevations) (now work) ⌝ }
     requires { ⌜ (getD (now work) cell 0 ≡ 0 → isData (now elevations) cell ≡ false) ⌝ }
+    requires { ⌜ Inner g (cell / g .cols) (cell % g .cols) ⌝ }
     requires { ⌜ Offsets (g .cols) (now offsets) ⌝ }
     ensures { λ r. ⌜ r ≡ directionAt g (now (elevations .entry)) (levelsIn g (now (work .entry))) cell ⌝ }
 {
@@ -384,10 +358,166 @@ fn code_at(
     if word < 256 {
         return word as u8;
     }
-    slopes::choose(table, flat_sum(g, offsets, elevations, work, cell, word))
+    let k = cells::key(elevations[cell]);
+    let low = lowest_below(word);
+    slopes::choose(
+        table,
+        flat_sum_inner(g, offsets, elevations, work, cell, k, low, word),
+    )
 }
 
-// Writes the code of every cell.
+// The same for any cell.
+fn border_code(g: Grid, elevations: &[i16], table: &[u8; 256], work: &[u32], cell: usize) -> u8
+    requires { ⌜ length (now elevations) ≡ size g ⌝ }
+    requires { ⌜ size g < 2 ^ 24 ⌝ }
+    requires { ⌜ size g ≤ length (now work) ⌝ }
+    requires { ⌜ now table ≡ choices' ⌝ }
+    requires { ⌜ cell < size g ⌝ }
+    requires { ⌜ Levelled g (now elevations) (now work) ⌝ }
+    requires { ⌜ (getD (now work) cell 0 ≡ 0 → isData (now elevations) cell ≡ false) ⌝ }
+    ensures { λ r. ⌜ r ≡ directionAt g (now (elevations .entry)) (levelsIn g (now (work .entry))) cell ⌝ }
+{
+    let word = work[cell];
+    if word < 256 {
+        return word as u8;
+    }
+    let k = cells::key(elevations[cell]);
+    let low = lowest_below(word);
+    slopes::choose(
+        table,
+        flat_sum_border(g, elevations, work, cell, k, low, word),
+    )
+}
+
+// Goes on with codes for the cells from `from` to `to`, which lie within the border. Cells within the border and cells on it have loops of
+// their own, since the compiler makes worse code of one loop that chooses at each cell.
+fn inner_codes(
+    g: Grid,
+    offsets: &[usize; 8],
+    elevations: &[i16],
+    table: &[u8; 256],
+    work: &[u32],
+    from: usize,
+    to: usize,
+    codes: &mut [u8],
+)
+    requires { ⌜ length (now elevations) ≡ size g ⌝ }
+    requires { ⌜ size g < 2 ^ 24 ⌝ }
+    requires { ⌜ size g ≤ length (now work) ⌝ }
+    requires { ⌜ length (now codes) ≡ size g ⌝ }
+    requires { ⌜ now table ≡ choices' ⌝ }
+    requires { ⌜ Levelled g (now elevations) (now work) ⌝ }
+    requires { ⌜ NoneLacks g (now elevations) (now work) ⌝ }
+    requires { ⌜ (from ≤ to) × (to ≤ size g) ⌝ }
+    requires { ⌜ CodesTo g (now elevations) (now work) from (now codes) ⌝ }
+    requires { ⌜ ((c : ℕ) → from ≤ c → c < to → Inner g (c / g .cols) (c % g .cols)) ⌝ }
+    requires { ⌜ Offsets (g .cols) (now offsets) ⌝ }
+    ensures { λ r. ⌜ CodesTo g (now (elevations .entry)) (now (work .entry)) to (now (codes .exit)) ⌝ }
+{
+    let mut cell = from;
+    while cell < to {
+        codes[cell] = inner_code(g, offsets, elevations, table, work, cell);
+        cell += 1;
+    }
+}
+
+// The same for cells that may lie on the border.
+fn border_codes(
+    g: Grid,
+    elevations: &[i16],
+    table: &[u8; 256],
+    work: &[u32],
+    from: usize,
+    to: usize,
+    codes: &mut [u8],
+)
+    requires { ⌜ length (now elevations) ≡ size g ⌝ }
+    requires { ⌜ size g < 2 ^ 24 ⌝ }
+    requires { ⌜ size g ≤ length (now work) ⌝ }
+    requires { ⌜ length (now codes) ≡ size g ⌝ }
+    requires { ⌜ now table ≡ choices' ⌝ }
+    requires { ⌜ Levelled g (now elevations) (now work) ⌝ }
+    requires { ⌜ NoneLacks g (now elevations) (now work) ⌝ }
+    requires { ⌜ (from ≤ to) × (to ≤ size g) ⌝ }
+    requires { ⌜ CodesTo g (now elevations) (now work) from (now codes) ⌝ }
+    ensures { λ r. ⌜ CodesTo g (now (elevations .entry)) (now (work .entry)) to (now (codes .exit)) ⌝ }
+{
+    let mut cell = from;
+    while cell < to {
+        codes[cell] = border_code(g, elevations, table, work, cell);
+        cell += 1;
+    }
+}
+
+// Goes on with codes for a row within the border, from its second cell to the first of the next row.
+fn code_row(
+    g: Grid,
+    offsets: &[usize; 8],
+    elevations: &[i16],
+    table: &[u8; 256],
+    work: &[u32],
+    row: usize,
+    codes: &mut [u8],
+)
+    requires { ⌜ length (now elevations) ≡ size g ⌝ }
+    requires { ⌜ size g < 2 ^ 24 ⌝ }
+    requires { ⌜ size g ≤ length (now work) ⌝ }
+    requires { ⌜ length (now codes) ≡ size g ⌝ }
+    requires { ⌜ now table ≡ choices' ⌝ }
+    requires { ⌜ Levelled g (now elevations) (now work) ⌝ }
+    requires { ⌜ NoneLacks g (now elevations) (now work) ⌝ }
+    requires { ⌜ (1 ≤ row) × (row + 2 ≤ g .rows) × (3 ≤ g .cols) ⌝ }
+    requires { ⌜ CodesTo g (now elevations) (now work) (row * g .cols + 1) (now codes) ⌝ }
+    requires { ⌜ Offsets (g .cols) (now offsets) ⌝ }
+    ensures { λ r. ⌜ CodesTo g (now (elevations .entry)) (now (work .entry)) ((row + 1) * g .cols + 1) (now (codes .exit)) ⌝ }
+{
+    let cols = g.cols;
+    let from = row * cols + 1;
+    let to = from + (cols - 2);
+    inner_codes(g, offsets, elevations, table, work, from, to, codes);
+    border_codes(g, elevations, table, work, to, to + 2, codes);
+}
+
+// The codes of a sheet with cells within its border.
+fn code_rows(
+    g: Grid,
+    offsets: &[usize; 8],
+    elevations: &[i16],
+    table: &[u8; 256],
+    work: &[u32],
+    codes: &mut [u8],
+)
+    requires { ⌜ length (now elevations) ≡ size g ⌝ }
+    requires { ⌜ size g < 2 ^ 24 ⌝ }
+    requires { ⌜ size g ≤ length (now work) ⌝ }
+    requires { ⌜ length (now codes) ≡ size g ⌝ }
+    requires { ⌜ now table ≡ choices' ⌝ }
+    requires { ⌜ Levelled g (now elevations) (now work) ⌝ }
+    requires { ⌜ NoneLacks g (now elevations) (now work) ⌝ }
+    requires { ⌜ (3 ≤ g .rows) × (3 ≤ g .cols) ⌝ }
+    requires { ⌜ Offsets (g .cols) (now offsets) ⌝ }
+    ensures { λ r. ⌜ CodesTo g (now (elevations .entry)) (now (work .entry)) (size g) (now (codes .exit)) ⌝ }
+{
+    let rows = g.rows;
+    let cols = g.cols;
+    border_codes(g, elevations, table, work, 0, cols + 1, codes);
+    let mut row: usize = 1;
+    while row + 1 < rows {
+        code_row(g, offsets, elevations, table, work, row, codes);
+        row += 1;
+    }
+    border_codes(
+        g,
+        elevations,
+        table,
+        work,
+        row * cols + 1,
+        elevations.len(),
+        codes,
+    );
+}
+
+// Writes the code of every cell, row by row as `seed` does it.
 fn write_codes(g: Grid, offsets: &[usize; 8], elevations: &[i16], work: &[u32], codes: &mut [u8])
     requires { ⌜ length (now elevations) ≡ size g ⌝ }
     requires { ⌜ size g < 2 ^ 24 ⌝ }
@@ -399,12 +529,15 @@ fn write_codes(g: Grid, offsets: &[usize; 8], elevations: &[i16], work: &[u32], 
     ensures { λ r. ⌜ now (codes .exit) ≡ table' (size g) (directionAt g (now (elevations .entry)) (levelsIn g (now (work .entry)))) ⌝ }
 {
     let table = slopes::choices();
-    let cells = elevations.len();
-    let mut cell: usize = 0;
-    while cell < cells {
-        codes[cell] = code_at(g, offsets, elevations, &table, work, cell);
-        cell += 1;
+    if g.rows < 3 {
+        border_codes(g, elevations, &table, work, 0, elevations.len(), codes);
+        return;
     }
+    if g.cols < 3 {
+        border_codes(g, elevations, &table, work, 0, elevations.len(), codes);
+        return;
+    }
+    code_rows(g, offsets, elevations, &table, work, codes);
 }
 
 // The codes of the sheet, or the first data cell without a level, and then the codes stay as they are.

@@ -1,18 +1,18 @@
 -- The look for cells of level 1, one cell after the other.
 use mathlib.Core.Path.{_≡_, refl, sym, _∙_, ap, subst}
 use mathlib.Core.Bool.{Bool, true, false, cond}
-use mathlib.Core.Logic.{inl, ⊎-elim}
+use mathlib.Core.Logic.{⊎-elim}
 use mathlib.Core.List.{List, []}
-use Prim.Native.Nat.{ℕ, suc, _+_, _/_, _%_, _≤_, _<_}
+use Prim.Native.Nat.{ℕ, suc, _+_, _≤_, _<_}
 use native.Mathlib.Omega.{arith}
 use lib.ListN.{length, getD, take, set}
 use lib.Seq.{getD-take}
 use lib.IntN.{ℤ}
 use Rattle.grid.specs.declared.Grid.{Grid}
-use Rattle.grid.specs.Sheet.{size, isData, neighbour}
+use Rattle.grid.specs.Sheet.{size, at, isData, neighbour}
 use Rattle.grid.specs.Directions.{isEqual, isLevelZero, directionAt}
 use Rattle.grid_laws.proofs.Tests.{test, true-false, cond-true, cond-false}
-use Rattle.cells.specs.Steps.{Inner}
+use Rattle.cells.proofs.Keys.{Known, known-level, zero-no-data}
 use Rattle.flow_laws.specs.Search.{Equal}
 use Rattle.flow_laws.specs.Words.{wordLevel, levelIn, queueIn, firstWord, Seeded, Searching, Joining}
 use Rattle.flow_laws.proofs.Search.{last?, looked, search-none}
@@ -21,7 +21,7 @@ use Rattle.flow_laws.proofs.Equals.{equal-on, equal-back}
 use Rattle.flow_laws.proofs.Leads.{zero-code-range}
 use Rattle.flow_laws.proofs.Words.{level-none, level-one, level-more, level-here, word-some, word-other}
 use Rattle.flow_laws.proofs.Words.{queue-first, queue-last, marked, searching-room}
-use Rattle.levels.proofs.Within.{other-flat, flat-within}
+use Rattle.levels.proofs.Keyed.{Looked, height-data}
 
 -- before the first cell
 module _ (g : Grid) (e : List ℤ) (half : ℕ) (work : List ℕ) (S : Seeded g e work) where
@@ -85,24 +85,19 @@ module _ (g : Grid) (e : List ℤ) (len : length e ≡ size g) (half : ℕ) (wor
       let w : 0 < getD work cell 0 = omega (arith, f) in
       (word-some _ (rw (getD-take (size g) work cell 0 on) w), omega arith))
 
-  pub joining-void : isData e cell ≡ false → Joining g e half work (cell + 1) tail
-  joining-void v =
+  -- its key is that of a void
+  pub joining-void : (k : ℕ) → Known k (at e cell) → k ≡ 0 → Joining g e half work (cell + 1) tail
+  joining-void k K z =
+      let v = zero-no-data e cell k (K .0) (K .1 .1 .0) z in
       passed (λ d b q. true-false (subst (λ (x : ℕ). isData e x ≡ true) (b .there) (equal-data g e d (b .position) (b .equal))) v)
 
   -- it lies beside no equal cell of level 0
-  pub joining-alone : ((p : ℕ) → p < 8 → isEqual g e cell p ≡ true → levelIn (size g) work (neighbour g cell p) ≡ 1 → ⊥)
-      → Joining g e half work (cell + 1) tail
-  joining-alone f =
+  pub joining-alone : {found : ℕ} → Looked g e work cell 8 found → 8 ≤ found → Joining g e half work (cell + 1) tail
+  joining-alone L none =
       passed
       (λ d b q.
       let k = equal-back g e len d cell b in
-      absurd (f (k .position) (k .eight) (k .equal) (ap (levelIn (size g) work) (k .there) ∙ q)))
-
-  -- where every side is open, a data cell without a word lies within the border
-  pub joining-within : getD work cell 0 ≡ 0 → isData e cell ≡ true → g .sides ≡ 0 → Inner g (cell / g .cols) (cell % g .cols)
-  joining-within none d sides =
-      let z : levelIn (size g) work cell ≡ 0 = level-none _ (getD-take (size g) work cell 0 on ∙ none) in
-      flat-within g e cell on d (other-flat g e cell on half work (J .searching) (λ one. omega arith)) (inl sides)
+      absurd (L .1 none (k .position) (k .eight) (k .equal) (ap (levelIn (size g) work) (k .there) ∙ q)))
 
   pub joining-room : getD work cell 0 ≡ 0 → tail < size g
   joining-room z = searching-room g e len half work (J .searching) cell on z
@@ -146,7 +141,7 @@ module _ (g : Grid) (e : List ℤ) (len : length e ≡ size g) (half : ℕ) (wor
         last : i ≡ tail → levelIn (size g) after (queueIn half after i) ≡ 2
         last q = rw q (ap (levelIn (size g) after) (queue-last (size g) half tail cell 256 work hn hl on (joining-room none)) ∙ here)
 
-    pub joining-marked : Joining g e half after (cell + 1) (tail + 1)
+    joining-marked : Joining g e half after (cell + 1) (tail + 1)
     joining-marked =
         record {
           searching =
@@ -160,5 +155,9 @@ module _ (g : Grid) (e : List ℤ) (len : length e ≡ size g) (half : ℕ) (wor
           ahead = λ c h k. let q = other c (λ r. omega arith) in let a = J .ahead c (omega arith) k in omega arith;
         }
 
-    pub joining-next : {work′ : List ℕ} {r : ℕ} → r ≡ tail + 1 → work′ ≡ after → Joining g e half work′ (cell + 1) r
-    joining-next q s = rw (q, s) joining-marked
+  pub joining-next : (k : ℕ) → Known k (at e cell) → 0 < k → {found r : ℕ} {work′ : List ℕ} → Looked g e work cell 8 found → found < 8
+      → size g ≤ half → half + size g ≤ length work → getD work cell 0 ≡ 0
+      → r ≡ tail + 1 → work′ ≡ set (set work cell 256) (half + tail) cell → Joining g e half work′ (cell + 1) r
+  joining-next k K some {found} L h hn hl none q s =
+      let d = height-data e cell k (sym (known-level k (at e cell) K)) some in
+      rw (q, s) (joining-marked hn hl none d found h (L .0 h .0) (L .0 h .1))

@@ -1,7 +1,7 @@
 -- The look at the eight neighbours of the queue's first.
 use mathlib.Core.Path.{_≡_, refl, sym, _∙_, ap, subst}
 use mathlib.Core.Bool.{true, false, not}
-use mathlib.Core.Logic.{_⊎_, inl, inr, ⊎-elim}
+use mathlib.Core.Logic.{inl, inr, ⊎-elim}
 use mathlib.Core.List.{List}
 use Prim.Native.Nat.{ℕ, suc, _+_, _/_, _%_, _≤_, _<_}
 use native.Mathlib.Omega.{arith}
@@ -19,7 +19,7 @@ use Rattle.flow_laws.proofs.Search.{last?, popped}
 use Rattle.flow_laws.proofs.Equals.{is-equal, equal-on, equal-back}
 use Rattle.flow_laws.proofs.Agree.{equal-on-sheet}
 use Rattle.flow_laws.proofs.Words.{level-none, level-up, level-here, word-more, word-some, word-other}
-use Rattle.flow_laws.proofs.Words.{queue-first, marked, searching-room}
+use Rattle.flow_laws.proofs.Words.{queue-first, marked, searching-room, searching-most, searching-small}
 use Rattle.levels.specs.Touched.{TouchedAny}
 use Rattle.levels.specs.Spreading.{Spreading}
 use Rattle.levels.proofs.Within.{other-flat, flat-within, flat-alike}
@@ -29,22 +29,32 @@ pub alike-data : (e : List ℤ) (c d : ℕ) → at e d ≡ at e c → isData e c
 unfolding isData
 alike-data e c d q t = ap (λ (z : ℤ). not (eqZ z void)) q ∙ t
 
+-- what the reading of the queue's first, and of its word, needs and gives
+pub record Reading (g : Grid) (e : List ℤ) (half : ℕ) (work : List ℕ) (head tail first : ℕ) : Type 0 where
+  pub few : head < size g
+  pub on : first < size g
+  pub low : getD work first 0 < size g + 256
+  pub spreading : Spreading g e half work head tail first (getD work first 0 + 1) 0
+
+pub reading : (g : Grid) (e : List ℤ) → length e ≡ size g → (half : ℕ) (work : List ℕ) (head tail : ℕ)
+    → Searching g e half work (size g) head tail → head < tail → Reading g e half work head tail (getD work (half + head) 0)
+reading g e len half work head tail S h =
+    let on = S .search .queued head h .0 in
+    record {
+      few = omega (arith, searching-most g e len half work S);
+      on = on;
+      low = searching-small g e len half work S (getD work (half + head) 0) on;
+      spreading =
+          record {
+            searching = S;
+            more = h;
+            first = refl;
+            high = ap (λ (w : ℕ). w + 1) (getD-take (size g) work (getD work (half + head) 0) 0 on);
+            done = λ q l. let z : ⊥ = omega arith in absurd z;
+          };
+    }
+
 module _ (g : Grid) (e : List ℤ) (len : length e ≡ size g) (half : ℕ) (work : List ℕ) (head tail : ℕ) where
-  -- the queue's first
-  pub first-on : Searching g e half work (size g) head tail → head < tail → getD work (half + head) 0 < size g
-  first-on S h = S .search .queued head h .0
-
-  pub spreading-none : Searching g e half work (size g) head tail → head < tail
-      → Spreading g e half work head tail (getD work (half + head) 0) (getD work (getD work (half + head) 0) 0 + 1) 0
-  spreading-none S h =
-      record {
-        searching = S;
-        more = h;
-        first = refl;
-        high = ap (λ (w : ℕ). w + 1) (getD-take (size g) work (getD work (half + head) 0) 0 (first-on S h));
-        done = λ q l. let z : ⊥ = omega arith in absurd z;
-      }
-
   module _ (x word p : ℕ) (P : Spreading g e half work head tail x word p) where
     pub x-on : x < size g
     x-on = rw (P .first) at (P .searching .search .queued head (P .more) .0)
@@ -58,9 +68,9 @@ module _ (g : Grid) (e : List ℤ) (len : length e ≡ size g) (half : ℕ) (wor
     x-flat : isLevelZero g e x ≡ false
     x-flat = other-flat g e x x-on half work (P .searching) (λ one. let h = x-high in omega arith)
 
-    -- what `is_within` says serves
-    pub x-within : (g .sides ≡ 0) ⊎ Inner g (x / g .cols) (x % g .cols) → Inner g (x / g .cols) (x % g .cols)
-    x-within w = flat-within g e x x-on x-data x-flat w
+    -- where every side is open it lies within the border
+    pub x-within : g .sides ≡ 0 → Inner g (x / g .cols) (x % g .cols)
+    x-within sides = flat-within g e x x-on x-data x-flat sides
 
     -- there is room for a cell without a word
     pub spreading-room : half + size g ≤ length work → (m : ℕ) → m < size g → getD work m 0 ≡ 0 → half + tail < length work

@@ -2,7 +2,7 @@
 -- sheet holds data. Two such neighbours are equal: the higher would have a drop.
 use mathlib.Core.Path.{_≡_, sym, subst}
 use mathlib.Core.Bool.{true, false, _||_}
-use mathlib.Core.Logic.{_⊎_, inl, inr, ⊎-elim}
+use mathlib.Core.Logic.{⊎-elim}
 use mathlib.Core.List.{List}
 use Prim.Native.Nat.{ℕ, _/_, _%_, _<_}
 use native.Mathlib.Omega.{arith}
@@ -32,11 +32,9 @@ module _ (g : Grid) (e : List ℤ) where
   flat-no-outlet c d z =
       or-none-left (isOutlet g e c) (hasDescent g e c) (and-rest-false (isData e c) (isOutlet g e c || hasDescent g e c) d z)
 
-  -- what `is_within` says is all that is left to ask
-  pub flat-within : (c : ℕ) → c < size g → isData e c ≡ true → isLevelZero g e c ≡ false
-      → (g .sides ≡ 0) ⊎ Inner g (c / g .cols) (c % g .cols) → Inner g (c / g .cols) (c % g .cols)
-  flat-within c on d z (inl sides) = outlet-free g c on sides e d (flat-no-outlet c d z)
-  flat-within c on d z (inr inner) = inner
+  pub flat-within : (c : ℕ) → c < size g → isData e c ≡ true → isLevelZero g e c ≡ false → g .sides ≡ 0
+      → Inner g (c / g .cols) (c % g .cols)
+  flat-within c on d z sides = outlet-free g c on sides e d (flat-no-outlet c d z)
 
   pub within-data : (c p : ℕ) → isData e c ≡ true → p < 8 → isLevelZero g e c ≡ false → neighbour g c p < size g
       → isData e (neighbour g c p) ≡ true

@@ -1,15 +1,15 @@
 // Levels (document 01, "Directions"): how far each cell of a flat is from a cell of level 0, in steps to equal neighbours. Given the words
 // of the cells of level 0 it finds all others in linear time, breadth first: one look at each cell for level 1, then the queue, whose
 // cells stand by rising level, so that a cell is marked by the lowest of its equal neighbours. It lies in the second half of the work
-// buffer (`queue`). A data cell that is not at level 0 is no outlet: where every side is open it lies within the border, and its neighbours
-// at fixed offsets; on a closed side it may lie on the border, and steps off the sheet find nothing. `is_within` tells which, and each loop
-// over the neighbours stands here for both. Proved by the certificate of `flow_laws`: each loop keeps the state `Searching`.
+// buffer (`queue`). Within the border neighbours lie at fixed offsets; on it steps off the sheet find nothing. To ask at each cell which it
+// is makes slower loops. So the first look takes cells within the border and on it in runs of their own, and the queue's loop is chosen
+// once for a sheet: with every side open no flat cell lies on the border (proofs/Within `flat-within`), and nothing is asked. Proved by the
+// certificate of `flow_laws`: each loop keeps the state `Searching`.
 use cells::beside;
 use cells::key;
 use grid::Grid;
 ghost use mathlib.Core.Path.{_≡_};
 ghost use mathlib.Core.Bool.{true, false, cond};
-ghost use mathlib.Core.Logic.{_⊎_};
 ghost use Prim.Native.Nat.{ℕ, _+_, _*_, _/_, _%_, _<_, _≤_, _^_};
 ghost use lib.ListN.{length, getD};
 ghost use Rattle.grid.specs.Sheet.{size, at, neighbour};
@@ -19,20 +19,6 @@ ghost use Rattle.cells.specs.Steps.{Inner, Offsets};
 ghost use Rattle.flow_laws.specs.Words.{levelIn, Seeded, Searching, Joining, Levelled};
 ghost use Rattle.levels.specs.Touched.{Touched, TouchedAny};
 ghost use Rattle.levels.specs.Spreading.{Spreading};
-
-// Whether a cell that is not at level 0 is known to lie within the border: where every side is open each such data cell does
-// (proofs/Within `flat-within`), otherwise its row and column say it.
-pub fn is_within(g: Grid, cell: usize) -> bool
-    requires { ⌜ size g < 2 ^ 24 ⌝ }
-    requires { ⌜ cell < size g ⌝ }
-    ensures { λ r. ⌜ (r ≡ true → (g .sides ≡ 0) ⊎ Inner g (cell / g .cols) (cell % g .cols)) ⌝ }
-{
-    if g.sides == 0 {
-        return true;
-    }
-    let cols = g.cols;
-    cells::is_inner(g, cell / cols, cell % cols)
-}
 
 // Marks and queues the cell `m` if it has no word.
 fn touch(half: usize, word: u32, tail: usize, m: usize, work: &mut [u32]) -> usize
@@ -93,9 +79,10 @@ fn spread_inner(
     end
 }
 
-// The same for a cell on the border.
-fn spread_border(
+// The same for any cell, which is asked once whether it lies within the border.
+fn spread_any(
     g: Grid,
+    offsets: &[usize; 8],
     elevations: &[i16],
     half: usize,
     head: usize,
@@ -109,21 +96,50 @@ fn spread_border(
     requires { ⌜ size g ≤ half ⌝ }
     requires { ⌜ half + size g ≤ length (now work) ⌝ }
     requires { ⌜ Spreading g (now elevations) half (now work) head tail cell word 0 ⌝ }
+    requires { ⌜ Offsets (g .cols) (now offsets) ⌝ }
     ensures { λ r. ⌜ Searching g (now (elevations .entry)) half (now (work .exit)) (size g) (head + 1) r ⌝ }
 {
     let n = elevations.len();
+    let cols = g.cols;
+    let inner = cells::is_inner(g, cell / cols, cell % cols);
     let mut end = tail;
     let mut p: usize = 0;
     while p < 8 {
-        let m = cells::neighbour(g, cell, p);
+        let m = cells::near(g, offsets, cell, inner, p);
         end = touch_any(n, half, word, end, m, work);
         p += 1;
     }
     end
 }
 
-// Gives the next level to the equal neighbours of the queue's cell at `head` that have none.
-fn spread(
+// Gives the next level to the equal neighbours of the queue's cell at `head` that have none, where every side is open: it lies within the
+// border.
+fn spread_open(
+    g: Grid,
+    offsets: &[usize; 8],
+    elevations: &[i16],
+    half: usize,
+    head: usize,
+    tail: usize,
+    work: &mut [u32],
+) -> usize
+    requires { ⌜ length (now elevations) ≡ size g ⌝ }
+    requires { ⌜ size g < 2 ^ 24 ⌝ }
+    requires { ⌜ size g ≤ half ⌝ }
+    requires { ⌜ half + size g ≤ length (now work) ⌝ }
+    requires { ⌜ head < tail ⌝ }
+    requires { ⌜ Searching g (now elevations) half (now work) (size g) head tail ⌝ }
+    requires { ⌜ g .sides ≡ 0 ⌝ }
+    requires { ⌜ Offsets (g .cols) (now offsets) ⌝ }
+    ensures { λ r. ⌜ Searching g (now (elevations .entry)) half (now (work .exit)) (size g) (head + 1) r ⌝ }
+{
+    let cell = work[half + head] as usize;
+    let word = work[cell] + 1;
+    spread_inner(g, offsets, elevations, half, head, tail, cell, word, work)
+}
+
+// The same where a side may be closed: the cell may lie on the border.
+fn spread_closed(
     g: Grid,
     offsets: &[usize; 8],
     elevations: &[i16],
@@ -143,10 +159,60 @@ fn spread(
 {
     let cell = work[half + head] as usize;
     let word = work[cell] + 1;
-    if is_within(g, cell) {
-        return spread_inner(g, offsets, elevations, half, head, tail, cell, word, work);
+    spread_any(g, offsets, elevations, half, head, tail, cell, word, work)
+}
+
+// Empties the queue where every side is open; its length at the end.
+fn empty_open(
+    g: Grid,
+    offsets: &[usize; 8],
+    elevations: &[i16],
+    half: usize,
+    tail: usize,
+    work: &mut [u32],
+) -> usize
+    requires { ⌜ length (now elevations) ≡ size g ⌝ }
+    requires { ⌜ size g < 2 ^ 24 ⌝ }
+    requires { ⌜ size g ≤ half ⌝ }
+    requires { ⌜ half + size g ≤ length (now work) ⌝ }
+    requires { ⌜ Searching g (now elevations) half (now work) (size g) 0 tail ⌝ }
+    requires { ⌜ g .sides ≡ 0 ⌝ }
+    requires { ⌜ Offsets (g .cols) (now offsets) ⌝ }
+    ensures { λ r. ⌜ Searching g (now (elevations .entry)) half (now (work .exit)) (size g) r r ⌝ }
+{
+    let mut head: usize = 0;
+    let mut end = tail;
+    while head < end {
+        end = spread_open(g, offsets, elevations, half, head, end, work);
+        head += 1;
     }
-    spread_border(g, elevations, half, head, tail, cell, word, work)
+    end
+}
+
+// The same where a side may be closed.
+fn empty_closed(
+    g: Grid,
+    offsets: &[usize; 8],
+    elevations: &[i16],
+    half: usize,
+    tail: usize,
+    work: &mut [u32],
+) -> usize
+    requires { ⌜ length (now elevations) ≡ size g ⌝ }
+    requires { ⌜ size g < 2 ^ 24 ⌝ }
+    requires { ⌜ size g ≤ half ⌝ }
+    requires { ⌜ half + size g ≤ length (now work) ⌝ }
+    requires { ⌜ Searching g (now elevations) half (now work) (size g) 0 tail ⌝ }
+    requires { ⌜ Offsets (g .cols) (now offsets) ⌝ }
+    ensures { λ r. ⌜ Searching g (now (elevations .entry)) half (now (work .exit)) (size g) r r ⌝ }
+{
+    let mut head: usize = 0;
+    let mut end = tail;
+    while head < end {
+        end = spread_closed(g, offsets, elevations, half, head, end, work);
+        head += 1;
+    }
+    end
 }
 
 // Empties the queue; its length at the end.
@@ -166,13 +232,10 @@ fn empty_queue(
     requires { ⌜ Offsets (g .cols) (now offsets) ⌝ }
     ensures { λ r. ⌜ Searching g (now (elevations .entry)) half (now (work .exit)) (size g) r r ⌝ }
 {
-    let mut head: usize = 0;
-    let mut end = tail;
-    while head < end {
-        end = spread(g, offsets, elevations, half, head, end, work);
-        head += 1;
+    if g.sides == 0 {
+        return empty_open(g, offsets, elevations, half, tail, work);
     }
-    end
+    empty_closed(g, offsets, elevations, half, tail, work)
 }
 
 // The one or the other: a choice of a number, so that the loop around it has no branch.
@@ -224,7 +287,7 @@ fn is_zero_any(elevations: &[i16], k: u32, m: usize, work: &[u32]) -> bool
     is_zero_at(elevations, k, m, work)
 }
 
-// `beside_level_zero` for a cell within the border.
+// The position of an equal neighbour of level 0, the last of them, or 8, for a cell within the border; `k` is its key.
 fn zero_inner(
     g: Grid,
     offsets: &[usize; 8],
@@ -255,7 +318,7 @@ fn zero_inner(
     found
 }
 
-// `beside_level_zero` for a cell on the border.
+// The same for any cell.
 fn zero_border(g: Grid, elevations: &[i16], cell: usize, k: u32, work: &[u32]) -> usize
     requires { ⌜ length (now elevations) ≡ size g ⌝ }
     requires { ⌜ size g < 2 ^ 24 ⌝ }
@@ -278,36 +341,8 @@ fn zero_border(g: Grid, elevations: &[i16], cell: usize, k: u32, work: &[u32]) -
     found
 }
 
-// The position of an equal neighbour of level 0, the last of them, or 8; `k` is the cell's key.
-fn beside_level_zero(
-    g: Grid,
-    offsets: &[usize; 8],
-    elevations: &[i16],
-    cell: usize,
-    k: u32,
-    work: &[u32],
-) -> usize
-    requires { ⌜ length (now elevations) ≡ size g ⌝ }
-    requires { ⌜ size g < 2 ^ 24 ⌝ }
-    requires { ⌜ size g ≤ length (now work) ⌝ }
-    requires { ⌜ cell < size g ⌝ }
-    requires { ⌜ (g .sides ≡ 0 → Inner g (cell / g .cols) (cell % g .cols)) ⌝ }
-    requires { ⌜ at (now elevations) cell ≡ levelOf k ⌝ }
-    requires { ⌜ 0 < k ⌝ }
-    requires { ⌜ Offsets (g .cols) (now offsets) ⌝ }
-    ensures { λ r. ⌜ (r < 8 → (isEqual g (now (elevations .entry)) cell r ≡ true)
-        × (levelIn (size g) (now (work .entry)) (neighbour g cell r) ≡ 1)) ⌝ }
-    ensures { λ r. ⌜ (8 ≤ r → (p : ℕ) → p < 8 → isEqual g (now (elevations .entry)) cell p ≡ true
-        → levelIn (size g) (now (work .entry)) (neighbour g cell p) ≡ 1 → ⊥) ⌝ }
-{
-    if is_within(g, cell) {
-        return zero_inner(g, offsets, elevations, cell, k, work);
-    }
-    zero_border(g, elevations, cell, k, work)
-}
-
-// Gives level 1 to the cell if it has no level and lies beside an equal cell of level 0.
-fn join(
+// Gives level 1 to a cell within the border if it has no level and lies beside an equal cell of level 0.
+fn join_inner(
     g: Grid,
     offsets: &[usize; 8],
     elevations: &[i16],
@@ -321,6 +356,7 @@ fn join(
     requires { ⌜ size g ≤ half ⌝ }
     requires { ⌜ half + size g ≤ length (now work) ⌝ }
     requires { ⌜ cell < size g ⌝ }
+    requires { ⌜ Inner g (cell / g .cols) (cell % g .cols) ⌝ }
     requires { ⌜ Joining g (now elevations) half (now work) cell tail ⌝ }
     requires { ⌜ Offsets (g .cols) (now offsets) ⌝ }
     ensures { λ r. ⌜ Joining g (now (elevations .entry)) half (now (work .exit)) (cell + 1) r ⌝ }
@@ -332,13 +368,162 @@ fn join(
     if k == 0 {
         return tail;
     }
-    if beside_level_zero(g, offsets, elevations, cell, k, work) >= 8 {
+    if zero_inner(g, offsets, elevations, cell, k, work) >= 8 {
         return tail;
     }
     queue::put(half, tail, cell, cell, 256, work)
 }
 
-// Finds the cells of level 1; how many there are.
+// The same for any cell.
+fn join_border(
+    g: Grid,
+    elevations: &[i16],
+    half: usize,
+    cell: usize,
+    tail: usize,
+    work: &mut [u32],
+) -> usize
+    requires { ⌜ length (now elevations) ≡ size g ⌝ }
+    requires { ⌜ size g < 2 ^ 24 ⌝ }
+    requires { ⌜ size g ≤ half ⌝ }
+    requires { ⌜ half + size g ≤ length (now work) ⌝ }
+    requires { ⌜ cell < size g ⌝ }
+    requires { ⌜ Joining g (now elevations) half (now work) cell tail ⌝ }
+    ensures { λ r. ⌜ Joining g (now (elevations .entry)) half (now (work .exit)) (cell + 1) r ⌝ }
+{
+    if work[cell] != 0 {
+        return tail;
+    }
+    let k = key(elevations[cell]);
+    if k == 0 {
+        return tail;
+    }
+    if zero_border(g, elevations, cell, k, work) >= 8 {
+        return tail;
+    }
+    queue::put(half, tail, cell, cell, 256, work)
+}
+
+// Goes on from `first` cells of level 1 over the cells from `from` to `to`, which lie within the border; how many there are then.
+fn inner_run(
+    g: Grid,
+    offsets: &[usize; 8],
+    elevations: &[i16],
+    half: usize,
+    from: usize,
+    to: usize,
+    first: usize,
+    work: &mut [u32],
+) -> usize
+    requires { ⌜ length (now elevations) ≡ size g ⌝ }
+    requires { ⌜ size g < 2 ^ 24 ⌝ }
+    requires { ⌜ size g ≤ half ⌝ }
+    requires { ⌜ half + size g ≤ length (now work) ⌝ }
+    requires { ⌜ (from ≤ to) × (to ≤ size g) ⌝ }
+    requires { ⌜ ((c : ℕ) → from ≤ c → c < to → Inner g (c / g .cols) (c % g .cols)) ⌝ }
+    requires { ⌜ Joining g (now elevations) half (now work) from first ⌝ }
+    requires { ⌜ Offsets (g .cols) (now offsets) ⌝ }
+    ensures { λ r. ⌜ Joining g (now (elevations .entry)) half (now (work .exit)) to r ⌝ }
+{
+    let mut tail = first;
+    let mut cell = from;
+    while cell < to {
+        tail = join_inner(g, offsets, elevations, half, cell, tail, work);
+        cell += 1;
+    }
+    tail
+}
+
+// The same for cells that may lie on the border.
+fn border_run(
+    g: Grid,
+    elevations: &[i16],
+    half: usize,
+    from: usize,
+    to: usize,
+    first: usize,
+    work: &mut [u32],
+) -> usize
+    requires { ⌜ length (now elevations) ≡ size g ⌝ }
+    requires { ⌜ size g < 2 ^ 24 ⌝ }
+    requires { ⌜ size g ≤ half ⌝ }
+    requires { ⌜ half + size g ≤ length (now work) ⌝ }
+    requires { ⌜ (from ≤ to) × (to ≤ size g) ⌝ }
+    requires { ⌜ Joining g (now elevations) half (now work) from first ⌝ }
+    ensures { λ r. ⌜ Joining g (now (elevations .entry)) half (now (work .exit)) to r ⌝ }
+{
+    let mut tail = first;
+    let mut cell = from;
+    while cell < to {
+        tail = join_border(g, elevations, half, cell, tail, work);
+        cell += 1;
+    }
+    tail
+}
+
+// Goes on over a row within the border, from its second cell to the first of the next row.
+fn round_row(
+    g: Grid,
+    offsets: &[usize; 8],
+    elevations: &[i16],
+    half: usize,
+    row: usize,
+    first: usize,
+    work: &mut [u32],
+) -> usize
+    requires { ⌜ length (now elevations) ≡ size g ⌝ }
+    requires { ⌜ size g < 2 ^ 24 ⌝ }
+    requires { ⌜ size g ≤ half ⌝ }
+    requires { ⌜ half + size g ≤ length (now work) ⌝ }
+    requires { ⌜ (1 ≤ row) × (row + 2 ≤ g .rows) × (3 ≤ g .cols) ⌝ }
+    requires { ⌜ Joining g (now elevations) half (now work) (row * g .cols + 1) first ⌝ }
+    requires { ⌜ Offsets (g .cols) (now offsets) ⌝ }
+    ensures { λ r. ⌜ Joining g (now (elevations .entry)) half (now (work .exit)) ((row + 1) * g .cols + 1) r ⌝ }
+{
+    let cols = g.cols;
+    let from = row * cols + 1;
+    let to = from + (cols - 2);
+    let tail = inner_run(g, offsets, elevations, half, from, to, first, work);
+    border_run(g, elevations, half, to, to + 2, tail, work)
+}
+
+// Goes over a sheet with cells within its border.
+fn round_rows(
+    g: Grid,
+    offsets: &[usize; 8],
+    elevations: &[i16],
+    half: usize,
+    work: &mut [u32],
+) -> usize
+    requires { ⌜ length (now elevations) ≡ size g ⌝ }
+    requires { ⌜ size g < 2 ^ 24 ⌝ }
+    requires { ⌜ size g ≤ half ⌝ }
+    requires { ⌜ half + size g ≤ length (now work) ⌝ }
+    requires { ⌜ (3 ≤ g .rows) × (3 ≤ g .cols) ⌝ }
+    requires { ⌜ Joining g (now elevations) half (now work) 0 0 ⌝ }
+    requires { ⌜ Offsets (g .cols) (now offsets) ⌝ }
+    ensures { λ r. ⌜ Joining g (now (elevations .entry)) half (now (work .exit)) (size g) r ⌝ }
+{
+    let rows = g.rows;
+    let cols = g.cols;
+    let mut tail = border_run(g, elevations, half, 0, cols + 1, 0, work);
+    let mut row: usize = 1;
+    while row + 1 < rows {
+        tail = round_row(g, offsets, elevations, half, row, tail, work);
+        row += 1;
+    }
+    border_run(
+        g,
+        elevations,
+        half,
+        row * cols + 1,
+        elevations.len(),
+        tail,
+        work,
+    )
+}
+
+// Finds the cells of level 1, row by row; how many there are. A sheet of fewer than three rows or columns is all border.
 fn first_round(
     g: Grid,
     offsets: &[usize; 8],
@@ -354,14 +539,13 @@ fn first_round(
     requires { ⌜ Offsets (g .cols) (now offsets) ⌝ }
     ensures { λ r. ⌜ Searching g (now (elevations .entry)) half (now (work .exit)) (size g) 0 r ⌝ }
 {
-    let cells = elevations.len();
-    let mut tail: usize = 0;
-    let mut cell: usize = 0;
-    while cell < cells {
-        tail = join(g, offsets, elevations, half, cell, tail, work);
-        cell += 1;
+    if g.rows < 3 {
+        return border_run(g, elevations, half, 0, elevations.len(), 0, work);
     }
-    tail
+    if g.cols < 3 {
+        return border_run(g, elevations, half, 0, elevations.len(), 0, work);
+    }
+    round_rows(g, offsets, elevations, half, work)
 }
 
 // Finds the level of every cell that has one, from the words of the cells of level 0 in the first half of the work buffer.

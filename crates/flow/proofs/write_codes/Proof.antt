@@ -1,103 +1,132 @@
-use mathlib.Core.Path.{_≡_, refl, _∙_}
-use Prim.Native.Nat.{ℕ, _-_, _≤_, _<_}
+use mathlib.Core.Path.{_≡_, _∙_}
+use mathlib.Core.List.{List}
+use Prim.Native.Nat.{ℕ}
 use native.Mathlib.Omega.{arith}
-use lib.ListN.{length, getD, length-set}
+use lib.ListN.{length}
 use borrow.Author.Needs.{needs}
+use Rattle.grid.specs.Below.{table}
 use Rattle.grid.specs.Sheet.{size}
 use Rattle.grid.specs.Directions.{directionAt}
 use Rattle.grid_laws.proofs.Below.{is-table}
 use Rattle.flow_laws.specs.Words.{levelsIn}
-use Rattle.flow.proofs.Seeds.{stored-more}
+use Rattle.flow.specs.Coding.{CodesTo}
+use Rattle.flow.proofs.Flats.{codes-none}
 use Rattle.flow.proofs.write_codes.Statement.{statement}
 use Rattle.flow.proofs.write_codes.Tie as tie
 
-abbrev Inv-loop : tie.InvT-loop
-Inv-loop g offsets elevations work codes₀ table cells cell₀ codes cell =
-    (cell ≤ cells) × (length codes ≡ length codes₀) × ((c : ℕ) → c < cell → getD codes c 0 ≡ directionAt g elevations (levelsIn g work) c)
+-- where every cell has its code, the codes are those of the sheet
+whole : (s : tie.Start) (codes : List ℕ) → length codes ≡ length (s .args .codes .now) →
+    let a = s .args in
+    CodesTo (a .g) (a .elevations .now) (a .work .now) (size (a .g)) codes →
+    codes ≡ table (size (a .g)) (directionAt (a .g) (a .elevations .now) (levelsIn (a .g) (a .work .now)))
+whole s codes same to =
+    let a = s .args in
+    is-table (size (a .g)) (directionAt (a .g) (a .elevations .now) (levelsIn (a .g) (a .work .now))) codes 0
+    (same ∙ s .pre .1 .1 .1 .0) to
 
-abbrev μ-loop : tie.MeasureT-loop
-μ-loop g offsets elevations work codes₀ table cells cell₀ codes cell = cells - cell
-
-choices-requires : tie.Need-choices-requires Inv-loop μ-loop
+choices-requires : tie.Need-choices-requires
 choices-requires c κs = search needs
 
-loop-holds : tie.Need-loop-holds Inv-loop μ-loop
-loop-holds c = (omega arith, refl, λ j h. let z : ⊥ = omega arith in absurd z)
-
-code-at-requires : tie.Need-code-at-requires Inv-loop μ-loop
-code-at-requires c κs =
-    let s = c .before .before .before .before .before .before in
-    let l = c .before .before .loop in
+border-codes-requires : tie.Need-border-codes-requires
+border-codes-requires c κs =
+    let made = c .before .before .before .before in
+    let s = made .before .before .before in
     let len = s .pre .0 in
-    let test = c .before .loop-test .taken in
-    let on : l .cell < size (s .args .g) = omega arith in (
+    let known = s .pre .1 .1 .1 in
+    let none = codes-none (s .args .g) (s .args .elevations .now) (s .args .work .now) (s .args .codes .now) in (
+      len,
+      (
+        s .pre .1 .0,
+        (
+          s .pre .1 .1 .0,
+          (
+            known .0,
+            (made .choices .ensures, (known .1 .0, (known .1 .1 .0, ((omega arith, omega arith), none)))),
+          ),
+        ),
+      ),
+    )
+
+same-length : tie.Need-same-length
+same-length c = search needs
+
+returns : tie.Need-returns
+returns c =
+    let border = c .before .before .border-codes in
+    let s = c .before .before .before .before .before .before .before .before .before .before in
+    let len = s .pre .0 in
+    whole s (border .last .1 .1 .1 .1 .1 .1 .0) (border .kept .1 .1 .1 .1 .1 .1 .0) (λ i h. border .ensures i (omega arith))
+
+border-codes-requires-2 : tie.Need-border-codes-requires-2
+border-codes-requires-2 c κs =
+    let made = c .before .before .before .before .before .before in
+    let s = made .before .before .before in
+    let len = s .pre .0 in
+    let known = s .pre .1 .1 .1 in
+    let none = codes-none (s .args .g) (s .args .elevations .now) (s .args .work .now) (s .args .codes .now) in (
+      len,
+      (
+        s .pre .1 .0,
+        (
+          s .pre .1 .1 .0,
+          (
+            known .0,
+            (made .choices .ensures, (known .1 .0, (known .1 .1 .0, ((omega arith, omega arith), none)))),
+          ),
+        ),
+      ),
+    )
+
+same-length-2 : tie.Need-same-length-2
+same-length-2 c = search needs
+
+returns-2 : tie.Need-returns-2
+returns-2 c =
+    let border = c .before .before .border-codes2 in
+    let s = c .before .before .before .before .before .before .before .before .before .before .before .before in
+    let len = s .pre .0 in
+    whole s (border .last .1 .1 .1 .1 .1 .1 .0) (border .kept .1 .1 .1 .1 .1 .1 .0) (λ i h. border .ensures i (omega arith))
+
+code-rows-requires : tie.Need-code-rows-requires
+code-rows-requires c κs =
+    let wide = c .before .before .if2 .left in
+    let tall = c .before .before .before .before .if1 .left in
+    let made = c .before .before .before .before .before .before in
+    let s = made .before .before .before in
+    let known = s .pre .1 .1 .1 in (
       s .pre .0,
       (
         s .pre .1 .0,
         (
           s .pre .1 .1 .0,
           (
-            c .before .before .before .choices .ensures,
-            (on, (s .pre .1 .1 .1 .1 .0, (s .pre .1 .1 .1 .1 .1 .0 (l .cell) on, s .pre .1 .1 .1 .1 .1 .1))),
+            known .0,
+            (made .choices .ensures, (known .1 .0, (known .1 .1 .0, ((omega arith, omega arith), known .1 .1 .1)))),
           ),
         ),
       ),
     )
 
--- the cell's place is among the codes
-within : (a : tie.After-code-at Inv-loop μ-loop) → a .before .before .before .loop .cell < length (a .before .before .before .loop .codes)
-within a =
-    let s = a .before .before .before .before .before .before .before in
-    let len = s .pre .0 in
-    let long = s .pre .1 .1 .1 .0 in
-    let test = a .before .before .loop-test .taken in
-    let same = a .before .before .before .loop .inv .1 in
-    omega arith
+same-length-3 : tie.Need-same-length-3
+same-length-3 c = search needs
 
-slice-write-codes : tie.Need-slice-write-codes Inv-loop μ-loop
-slice-write-codes c = within c
-
-add-cell : tie.Need-add-cell Inv-loop μ-loop
-add-cell c = let test = c .before .before .loop-test .taken in omega arith
-
-loop-less : tie.Need-loop-less Inv-loop μ-loop
-loop-less c = let test = c .before .before .loop-test .taken in omega arith
-
-loop-again : tie.Need-loop-again Inv-loop μ-loop
-loop-again c =
-    let s = c .before .before .before .before .before .before .before in
-    let l = c .before .before .before .loop in
-    let test = c .before .before .loop-test .taken in (
-      omega arith,
-      length-set (l .codes) (l .cell) (c .code-at .result) ∙ l .inv .1,
-      stored-more (directionAt (s .args .g) (s .args .elevations .now) (levelsIn (s .args .g) (s .args .work .now))) (l .codes) (l .cell)
-          (c .code-at .result) (within c) (l .inv .2) (c .code-at .ensures),
-    )
-
-same-length : tie.Need-same-length Inv-loop μ-loop
-same-length c = c .before .loop .inv .1
-
-returns : tie.Need-returns Inv-loop μ-loop
-returns c =
-    let s = c .before .before .before .before .before in
-    let l = c .before .loop in
-    let len = s .pre .0 in
-    let left = c .loop-test .left in
-    is-table (size (s .args .g)) (directionAt (s .args .g) (s .args .elevations .now) (levelsIn (s .args .g) (s .args .work .now)))
-    (l .codes) 0 (l .inv .1 ∙ s .pre .1 .1 .1 .0) (λ j h. l .inv .2 j (omega arith))
+returns-3 : tie.Need-returns-3
+returns-3 c =
+    let rows = c .before .before .code-rows in
+    let s = c .before .before .before .before .before .before .before .before .before .before .before .before in
+    whole s (rows .last .1 .1 .1 .1 .1 .0) (rows .kept .1 .1 .1 .1 .1 .0) (rows .ensures)
 
 pub write-codes-spec : {M : Type 1} → statement M
 write-codes-spec =
     tie.close
     (tie.spec
-    Inv-loop
-    μ-loop
     choices-requires
-    loop-holds
-    code-at-requires
-    slice-write-codes
-    add-cell
-    loop-less
-    loop-again
+    border-codes-requires
     same-length
-    returns)
+    returns
+    border-codes-requires-2
+    same-length-2
+    returns-2
+    code-rows-requires
+    same-length-3
+    returns-3)

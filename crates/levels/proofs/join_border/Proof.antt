@@ -1,15 +1,13 @@
-use mathlib.Core.Path.{_≡_, refl}
-use mathlib.Core.Bool.{true}
+use mathlib.Core.Path.{sym}
 use Prim.Native.Nat.{_<_}
 use native.Mathlib.Omega.{arith}
 use borrow.Author.Needs.{needs, sfits-of}
-use Rattle.grid.specs.Sheet.{at, isData}
-use Rattle.cells.specs.Keys.{levelOf}
-use Rattle.cells.proofs.Keys.{Known, zero-no-data}
-use Rattle.levels.proofs.Keyed.{key-read, agrees, height-data}
-use Rattle.levels.proofs.Joined.{joining-has, joining-void, joining-alone, joining-within, joining-room, joining-next}
-use Rattle.levels.proofs.join.Statement.{statement}
-use Rattle.levels.proofs.join.Tie as tie
+use Rattle.grid.specs.Sheet.{at}
+use Rattle.cells.proofs.Keys.{Known, known-level}
+use Rattle.levels.proofs.Keyed.{key-read}
+use Rattle.levels.proofs.Joined.{joining-has, joining-void, joining-alone, joining-room, joining-next}
+use Rattle.levels.proofs.join_border.Statement.{statement}
+use Rattle.levels.proofs.join_border.Tie as tie
 
 abbrev start : tie.After-key → tie.Start
 start c = c .before .before .before .before .before
@@ -22,12 +20,6 @@ own c =
     let fits = sfits-of (c .before .key-arg .given) in
     key-read (s .args .elevations .now) (s .args .cell) (c .key .result) (omega arith) fits (c .key .ensures)
 
-height : (c : tie.After-key) → at (start c .args .elevations .now) (start c .args .cell) ≡ levelOf (c .key .result)
-height c = agrees (c .key .result) (c .key .result) (own c .0) (own c .1 .1 .0) refl
-
-is-data : (c : tie.After-key) → 0 < c .key .result → isData (start c .args .elevations .now) (start c .args .cell) ≡ true
-is-data c some = height-data (start c .args .elevations .now) (start c .args .cell) (c .key .result) (height c) some
-
 mul-if1 : tie.Need-mul-if1
 mul-if1 c = search needs
 
@@ -39,7 +31,7 @@ returns c =
     let s = c .before .before .before in
     let a = s .args in
     joining-has (a .g) (a .elevations .now) (s .pre .0) (a .half) (a .work .now) (a .cell) (a .tail) (s .pre .1 .1 .1 .1 .0)
-    (s .pre .1 .1 .1 .1 .1 .0) (c .if1 .taken)
+    (s .pre .1 .1 .1 .1 .1) (c .if1 .taken)
 
 mul-key : tie.Need-mul-key
 mul-key c = search needs
@@ -56,21 +48,17 @@ returns-2 c =
     let s = start key in
     let a = s .args in
     joining-void (a .g) (a .elevations .now) (s .pre .0) (a .half) (a .work .now) (a .cell) (a .tail) (s .pre .1 .1 .1 .1 .0)
-    (s .pre .1 .1 .1 .1 .1 .0)
-    (zero-no-data (a .elevations .now) (a .cell) (key .key .result) (own key .0) (own key .1 .1 .0) (c .if2 .taken))
+    (s .pre .1 .1 .1 .1 .1) (key .key .result) (own key) (c .if2 .taken)
 
-beside-level-zero-requires : tie.Need-beside-level-zero-requires
-beside-level-zero-requires c κs =
+zero-border-requires : tie.Need-zero-border-requires
+zero-border-requires c κs =
     let key = c .before .before in
     let s = start key in
-    let a = s .args in
     let on = s .pre .1 .1 .1 .1 .0 in
     let left = c .before .if2 .left in
     let some : 0 < key .key .result = omega arith in
-    let within =
-    joining-within (a .g) (a .elevations .now) (s .pre .0) (a .half) (a .work .now) (a .cell) (a .tail) on (s .pre .1 .1 .1 .1 .1 .0)
-    (key .before .before .if1 .left) (is-data key some) in
-    (s .pre .0, (s .pre .1 .0, (omega arith, (on, (within, (height key, (some, s .pre .1 .1 .1 .1 .1 .1)))))))
+    let height = sym (known-level (key .key .result) (at (s .args .elevations .now) (s .args .cell)) (own key)) in
+    (s .pre .0, (s .pre .1 .0, (omega arith, (on, (height, some)))))
 
 same-length : tie.Need-same-length
 same-length c = search needs
@@ -81,7 +69,7 @@ returns-3 c =
     let s = start (found .before .before .before) in
     let a = s .args in
     joining-alone (a .g) (a .elevations .now) (s .pre .0) (a .half) (a .work .now) (a .cell) (a .tail) (s .pre .1 .1 .1 .1 .0)
-    (s .pre .1 .1 .1 .1 .1 .0) (found .beside-level-zero .ensures .1 (c .if3 .taken))
+    (s .pre .1 .1 .1 .1 .1) (found .zero-border .ensures) (c .if3 .taken)
 
 put-requires : tie.Need-put-requires
 put-requires c κs =
@@ -93,7 +81,7 @@ put-requires c κs =
     let under = s .pre .1 .1 .0 in
     let fits = s .pre .1 .1 .1 .0 in
     let room =
-    joining-room (a .g) (a .elevations .now) (s .pre .0) (a .half) (a .work .now) (a .cell) (a .tail) on (s .pre .1 .1 .1 .1 .1 .0)
+    joining-room (a .g) (a .elevations .now) (s .pre .0) (a .half) (a .work .now) (a .cell) (a .tail) on (s .pre .1 .1 .1 .1 .1)
     (key .before .before .if1 .left) in
     (omega arith, (omega arith, omega arith))
 
@@ -103,19 +91,18 @@ same-length-2 c = search needs
 returns-4 : tie.Need-returns-4
 returns-4 c =
     let queued = c .before .before in
-    let least = queued .before .before .if3 .left in
     let found = queued .before .before .before in
     let key = found .before .before .before in
     let left = found .before .before .if2 .left in
     let s = start key in
     let a = s .args in
-    let p = found .beside-level-zero .ensures .0 least in
     joining-next (a .g) (a .elevations .now) (s .pre .0) (a .half) (a .work .now) (a .cell) (a .tail) (s .pre .1 .1 .1 .1 .0)
-    (s .pre .1 .1 .1 .1 .1 .0) (s .pre .1 .1 .0) (s .pre .1 .1 .1 .0) (key .before .before .if1 .left) (is-data key (omega arith))
-    (found .beside-level-zero .result) least (p .0) (p .1) (queued .put .ensures .0) (queued .put .ensures .1)
+    (s .pre .1 .1 .1 .1 .1) (key .key .result) (own key) (omega arith) (found .zero-border .ensures)
+    (queued .before .before .if3 .left) (s .pre .1 .1 .0) (s .pre .1 .1 .1 .0) (key .before .before .if1 .left)
+    (queued .put .ensures .0) (queued .put .ensures .1)
 
-pub join-spec : {M : Type 1} → statement M
-join-spec =
+pub join-border-spec : {M : Type 1} → statement M
+join-border-spec =
     tie.close
     (tie.spec
     mul-if1
@@ -125,7 +112,7 @@ join-spec =
     shared-slice-copy-out-key
     key-requires
     returns-2
-    beside-level-zero-requires
+    zero-border-requires
     same-length
     returns-3
     put-requires
