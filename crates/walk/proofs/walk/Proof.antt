@@ -1,90 +1,24 @@
--- All starts: the starts below the present one are walked. The measure is what is left of the starts.
-use Prim.Native.Nat.{ℕ, _≤_, _-_}
-use mathlib.Core.Path.{_≡_, sym, _∙_, subst}
-use mathlib.Core.Bool.{Bool}
-use native.Mathlib.Nat.{le-antisymm}
-use native.Mathlib.Omega.{arith}
-use borrow.Author.Tests.{not-true, not-false}
+-- What one step finds, and then the starts.
+use borrow.Author.Needs.{needs}
 use denote.Ref.{now}
-use Rattle.route_laws.specs.Walking.{Stepped, WalkedTo, Walked}
-use Rattle.route_laws.proofs.Walking.{walked-none, stepped, walked-endless, walked-all}
 use Rattle.walk.proofs.walk.Statement.{statement}
 use Rattle.walk.proofs.walk.Tie as tie
 
-abbrev Inv-loop : tie.InvT-loop
-Inv-loop n tail₀ start₀ tail start = (start ≤ n) × WalkedTo n start tail₀ tail
+lift-all-requires : tie.Need-lift-all-requires
+lift-all-requires c κs = search needs
 
-abbrev μ-loop : tie.MeasureT-loop
-μ-loop n tail₀ start₀ tail start = n - start
+walk-on-requires : tie.Need-walk-on-requires
+walk-on-requires c κs = search needs
 
-loop-holds : tie.Need-loop-holds Inv-loop μ-loop
-loop-holds c = let s = c .before in (omega arith, walked-none (s .args .n) (now (s .args .tail)) (s .pre .1 .1) (s .pre .1 .0))
+same-length : tie.Need-same-length
+same-length c = search needs
 
-walk-from-requires : tie.Need-walk-from-requires Inv-loop μ-loop
-walk-from-requires c κs =
-    let s = c .before .before .before .before in
-    let e = c .before .before .loop .inv .1 .same-length in
-    (s .pre .0, (omega arith, c .before .loop-test .taken))
-
-same-length : tie.Need-same-length Inv-loop μ-loop
-same-length c =
-    let w = c .before .before .before .walk-from in
-    w .kept .1 .0 ∙ c .before .before .before .before .before .before .loop .inv .1 .same-length
-
-returns : tie.Need-returns Inv-loop μ-loop
+returns : tie.Need-returns
 returns c =
-    let k = c .before .before .before .before .before .before in
-    let s = k .before .before in
-    let w = c .before .before .before .walk-from in
-    walked-endless (s .args .n) (now (s .args .tail)) (s .pre .1 .1) (s .pre .1 .0) (k .loop .start) (k .loop .tail) (k .loop .inv .1)
-    (c .before .before .before .before .before .loop-test .taken) (w .last .1 .0)
-    (subst (λ (b : Bool). Stepped (s .args .n) (k .loop .start) (k .loop .tail) (w .last .1 .0) b) (not-true (w .result) (c .if1 .taken))
-    (w .ensures))
-
-add-start : tie.Need-add-start Inv-loop μ-loop
-add-start c = let t = c .before .before .before .before .before .loop-test .taken in omega arith
-
-loop-less : tie.Need-loop-less Inv-loop μ-loop
-loop-less c = let t = c .before .before .before .before .before .loop-test .taken in omega arith
-
-loop-again : tie.Need-loop-again Inv-loop μ-loop
-loop-again c =
-    let k = c .before .before .before .before .before .before in
-    let s = k .before .before in
-    let w = c .before .before .before .walk-from in
-    let t = c .before .before .before .before .before .loop-test .taken in (
-      omega arith,
-      stepped (s .args .n) (now (s .args .tail)) (s .pre .1 .1) (s .pre .1 .0) (k .loop .start) (k .loop .tail) (k .loop .inv .1) t
-          (w .last .1 .0)
-          (subst (λ (b : Bool). Stepped (s .args .n) (k .loop .start) (k .loop .tail) (w .last .1 .0) b)
-          (not-false (w .result) (c .if1 .left)) (w .ensures)),
-    )
-
-same-length-2 : tie.Need-same-length-2 Inv-loop μ-loop
-same-length-2 c = c .before .loop .inv .1 .same-length
-
-returns-2 : tie.Need-returns-2 Inv-loop μ-loop
-returns-2 c =
-    let k = c .before in
-    let s = k .before .before in
-    let h = k .loop .inv .0 in
-    let e : k .loop .start ≡ s .args .n = le-antisymm h (c .loop-test .left) in
-    subst (λ (m : ℕ). Walked (s .args .n) (now (s .args .tail)) (k .loop .tail) m) (sym e)
-    (walked-all (s .args .n) (now (s .args .tail)) (s .pre .1 .1) (s .pre .1 .0) (k .loop .tail)
-    (subst (λ (m : ℕ). WalkedTo (s .args .n) m (now (s .args .tail)) (k .loop .tail)) e (k .loop .inv .1)))
+    let w = c .before .before in
+    let l = w .before .before .before .before in
+    let s = l .before .before .before in
+    w .walk-on .ensures (now (s .args .tail)) (s .pre .1 .1) (s .pre .1 .0) (l .lift-all .ensures)
 
 pub walk-spec : {M : Type 1} → statement M
-walk-spec =
-    tie.close
-    (tie.spec
-    Inv-loop
-    μ-loop
-    loop-holds
-    walk-from-requires
-    same-length
-    returns
-    add-start
-    loop-less
-    loop-again
-    same-length-2
-    returns-2)
+walk-spec = tie.close (tie.spec lift-all-requires walk-on-requires same-length returns)
