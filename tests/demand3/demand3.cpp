@@ -129,7 +129,7 @@ static void judge(const Four &four) {
       x = k;
     }
     hold(outlet(last), "ending at an outlet");
-    hold(codes[(size_t)last] == outlet_code(last), "the code of the outlet");
+    hold(!outlet(c) || codes[i] == outlet_code(c), "the code of an outlet");
     hold(labels[i] == (uint32_t)last + 1, "the label");
     hold(high == filled[i], "the highest elevation of the route");
     hold(filled[i] >= e[i], "not below the input");

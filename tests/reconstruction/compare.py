@@ -38,7 +38,7 @@ def reconstructed(sheet, closed):
 
 
 rng = np.random.default_rng(1)
-sheets = refused = 0
+sheets = sided = refused = 0
 for k in range(600):
     rows, cols = rng.integers(1, 60, 2)
     high = int(rng.choice([1, 3, 20, 30000]))
@@ -52,5 +52,6 @@ for k in range(600):
         continue
     assert (out == reconstructed(sheet, closed)).all(), f"sheet {k} differs"
     sheets += 1
-assert refused
-print(f"reconstruction: {sheets} sheets filled as scikit-image fills them, half of them with closed sides; {refused} without an outlet")
+    sided += closed > 0
+assert refused and sided
+print(f"reconstruction: {sheets} sheets filled as scikit-image fills them, {sided} of them with closed sides; {refused} without an outlet")

@@ -141,7 +141,8 @@ pub fn check(
     answer
 }
 
-// 5, 6, 17, 7 and 8, for elevations and four result sheets, of calls that work out outlets.
+// 5, 6, 17, 7 and 8, for elevations and four result sheets, of calls that work out outlets. A call with fewer names one of them again.
+// `sheets` asks 5 and 6 once more, and gets a yes.
 pub fn outlets(g: Grid, given: usize, a: usize, b: usize, c: usize, d: usize) -> Answer
     ensures { λ r. ⌜ r ≡ askOutlets g (given ∷ []) (a ∷ b ∷ c ∷ d ∷ []) accepted ⌝ }
 {

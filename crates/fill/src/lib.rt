@@ -3,8 +3,7 @@
 // certificate of fill_laws: what the flood leaves is an outlet's own elevation, no cell above both its own and a neighbour's level, and
 // the place in the queue bounds the passes that a cell needs. What the flood has not come to has no chain to an outlet: question 18 costs
 // one scan, and none where every side is open. The questions 5 to 9 come first, 17 among them; only the work buffer is written before the
-// last loop. `load`, `fill_words` and `fill_loaded` are steps of their own: other calls fill a sheet that the keys in the work buffer
-// spell.
+// last loop. `load`, `fill_loaded`, `fill_sheet` and `first_stranded` are steps of their own, for other calls.
 use grid::Answer;
 use grid::Grid;
 ghost use mathlib.Core.Path.{_≡_};
@@ -64,7 +63,7 @@ fn first_unreached(n: usize, work: &[u32]) -> usize
 
 // Floods the sheet whose keys stand in the work buffer: the first stranded cell, or the number of cells, and then each word is the cell's
 // key, and above it the filled one. Where every side is open no cell is stranded.
-pub fn fill_words(g: Grid, work: &mut [u32]) -> usize
+fn fill_words(g: Grid, work: &mut [u32]) -> usize
     requires { ⌜ size g < 2 ^ 24 ⌝ }
     requires { ⌜ g .cols < 2 ^ 24 ⌝ }
     requires { ⌜ 4 * size g ≤ length (now work) ⌝ }

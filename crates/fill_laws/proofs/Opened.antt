@@ -64,10 +64,11 @@ module _ (e : List ℤ) (cell : ℕ) (level : ℤ) (data-cell : isData e cell �
         (same-joined g (isData (opened e cell level)) (isData e) (isOutlet g (opened e cell level)) (isOutlet g e) opened-data
         opened-outlets)
         ∙ first-ext (size g) (λ c. isData (opened e cell level) c && not (getD (drained g e) c false))
-        (λ c. isData e c && not (getD (drained g e) c false)) (λ c h. ap (λ (t : Bool). t && not (getD (drained g e) c false)) (opened-data c))
+        (λ c. isData e c && not (getD (drained g e) c false))
+        (λ c h. ap (λ (t : Bool). t && not (getD (drained g e) c false)) (opened-data c))
 
 pub opened-alike : OpenedAlike
 opened-alike g e cell level d f =
     let q = T-true (isData e cell) d in
     let l = T-true (isLevelFor e cell level) f in
-    (opened-outlets e cell level q l g, opened-stranded e cell level q l g)
+    (opened-data e cell level q l, opened-outlets e cell level q l g, opened-stranded e cell level q l g)

@@ -21,10 +21,11 @@ use Rattle.known_ground.specs.Cases.{allHold, knownGround}
 pub known-ground : allHold knownGround ≡ true
 unfolding allHold knownGround table anyBelow sumBelow countBelow firstBelow joinBelow has lastOf void top eqZ lower higher isData
     positionOf moved cellAt neighbour isOpen leavesAt isOutlet outletCode drained firstStranded startAt lowestTo passAt passes filled
-    dropTo squaredDistance beats beaten isSteepest steepestSum member score bestOf choice isEqual hasDescent isLevelZero levelPassAt levelPasses levels flatSum
-    directionAt directions firstUnlevelled follow endsBy hasCode receiver countAt labelAt counts labels firstBadCode firstEndless joinPass
-    joinPasses joined isWet pondOf lowestCell isLowest ponds pondCount natural depth pondLevel pondCells pondVolume opened isLevelFor
-    inRange askSize allHave askLengths askSides askSheets askOutlets askWork askReach askCodes fillCheck directionsCheck codesCheck
-    drainCheck pondsCheck askCulvert culvertCheck hexValue isTextByte number4 textGrid endsLine isShaped firstBadByte readCheck fromTwos toTwos textSheet upperDigit hexText sheetText headerText
-    resultText refusalText drainText programText
+    dropTo squaredDistance beats beaten isSteepest steepestSum member score bestOf choice isEqual hasDescent isLevelZero levelPassAt
+    levelPasses levels flatSum directionAt directions firstUnlevelled follow endsBy hasCode receiver countAt labelAt counts labels
+    firstBadCode firstEndless joinPass joinPasses joined isWet pondOf lowestCell isLowest ponds pondCount natural depth pondLevel
+    pondCells pondVolume opened isLevelFor inRange askSize allHave askLengths askSides askSheets askOutlets askWork askReach askCodes
+    fillCheck directionsCheck codesCheck drainCheck pondsCheck askCulvert culvertCheck hexValue isTextByte number4 textGrid endsLine
+    isShaped firstBadByte readCheck fromTwos toTwos textSheet upperDigit hexText sheetText headerText resultText refusalText drainText
+    programText
 known-ground = refl

@@ -1,10 +1,10 @@
 // Levels (document 01, "Directions"): how far each cell of a flat is from a cell of level 0, in steps to equal neighbours. Given the words
 // of the cells of level 0 it finds all others in linear time, breadth first: one look at each cell for level 1, then the queue, whose
-// cells stand by rising level, so that a cell is marked by the lowest of its equal neighbours. It lies in the second half of the work
-// buffer (`queue`). Within the border neighbours lie at fixed offsets; on it steps off the sheet find nothing. To ask at each cell which it
-// is makes slower loops. So the first look takes cells within the border and on it in runs of their own, and the queue's loop is chosen
-// once for a sheet: with every side open no flat cell lies on the border (proofs/Within `flat-within`), and nothing is asked. Proved by the
-// certificate of `flow_laws`: each loop keeps the state `Searching`.
+// cells stand by rising level, so that a cell is marked by the lowest of its equal neighbours. The queue lies in the second half of the
+// work buffer (`queue`). Within the border neighbours lie at fixed offsets; on it steps off the sheet find nothing. To ask at each cell
+// which it is makes slower loops. So the first look takes cells within the border and on it in runs of their own, and the queue's loop is
+// chosen once for a sheet: with every side open no flat cell lies on the border (proofs/Within `flat-within`), and nothing is asked; only
+// with closed sides is each queued cell. Proved by the certificate of `flow_laws`: each loop keeps the state `Searching`.
 use cells::beside;
 use cells::key;
 use grid::Grid;

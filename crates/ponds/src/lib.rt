@@ -1,5 +1,5 @@
-// The call `ponds` of document 02, "list the ponds": elevations to a sheet of pond numbers and three columns. The ponds are numbered in
-// the work buffer; 18 is asked after the flood, and 14 then, before anything is written; after a yes the numbers and columns are written.
+// The call `ponds` of document 02, "list the ponds": elevations to a sheet of pond numbers and three columns. After the flood 18 is
+// asked; then the ponds are numbered in the work buffer and 14 is asked, before a result is written.
 use grid::Counted;
 use grid::Grid;
 ghost use mathlib.Core.Path.{_≡_};

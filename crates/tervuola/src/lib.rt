@@ -157,8 +157,8 @@ pub extern "C" fn tervuola_culvert(
     work: &mut [u32],
 ) -> Answer
     ensures { λ r. ⌜ CulvertPromise (closedGrid rows cols sides) (now (elevations .entry)) cell level (now (filled .entry))
-        (now (filled .exit)) (now (codes .entry)) (now (codes .exit)) (now (counts .entry)) (now (counts .exit)) (now (labels .entry)) (now (labels .exit))
-        (now (work .entry)) (now (work .exit)) r ⌝ }
+        (now (filled .exit)) (now (codes .entry)) (now (codes .exit)) (now (counts .entry)) (now (counts .exit)) (now (labels .entry))
+        (now (labels .exit)) (now (work .entry)) (now (work .exit)) r ⌝ }
 {
     let g = Grid {
         rows: rows as usize,

@@ -4,9 +4,8 @@
 // The lent buffer begins with n receivers (`route_laws`, `specs/Receivers`), and the walk overwrites each by n + 1 + (1 plus the last cell
 // of the route, 0 without a code), which is above n: one word for each cell, each written once. One pass by falling cell number writes
 // what one step finds. Then from each start in turn it goes down to the first cell that has a result or is the route's end, then goes down
-// again and writes. A walk of more than n steps has met a ring, so
-// its start is the first endless cell: those before it have results. That a walk's steps are the route's is a law (`route_laws`,
-// `proofs/Walking`).
+// again and writes. A walk of more than n steps has met a ring, so its start is the first endless cell: those before it have results. That
+// a walk's steps are the route's is a law (`route_laws`, `proofs/Walking`).
 ghost use mathlib.Core.Bool.{true, false};
 ghost use Prim.Native.Nat.{_+_, _<_, _≤_, _^_};
 ghost use lib.ListN.{length, getD, take};

@@ -44,7 +44,8 @@ returns-2 : tie.Need-returns-2
 returns-2 c =
     let s = c .before .before .before in
     let a = s .args in
-    inr (c .before .if1 .left, (a .n + 2 + a .cell, omega arith, stop-end (a .n) (now (a .tail)) 0 (a .cell) (a .cell) refl (s .pre .1 .1) (c .if2 .taken), refl))
+    let stop = stop-end (a .n) (now (a .tail)) 0 (a .cell) (a .cell) refl (s .pre .1 .1) (c .if2 .taken) in
+    inr (c .before .if1 .left, (a .n + 2 + a .cell, omega arith, stop, refl))
 
 mul-next : tie.Need-mul-next
 mul-next c = search needs
