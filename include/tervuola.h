@@ -32,7 +32,7 @@
  * refused.
  *
  * A refusal (number above 0) leaves every result buffer as it was; a number up to 9, and 17, leaves the work buffer as it was
- * too. Otherwise the work buffer's contents are free afterwards.
+ * too. Otherwise the work buffer's contents are free afterwards, but for the first half of that of tervuola_counts.
  *
  * The calls allocate nothing, keep no state, are reentrant and thread-safe, and use at most 512 KiB of stack.
  */
@@ -43,7 +43,7 @@
 #include <stdint.h>
 
 #define TERVUOLA_VERSION_MAJOR 0
-#define TERVUOLA_VERSION_MINOR 4
+#define TERVUOLA_VERSION_MINOR 5
 #define TERVUOLA_VERSION_PATCH 0
 
 /* The void mark, and the eight direction codes. */
@@ -197,7 +197,8 @@ tervuola_answer tervuola_directions(uint32_t rows, uint32_t cols, uint32_t sides
 
 /*
  * Flow accumulation: the number of other cells whose routes pass through the cell, from any sheet of codes.
- * codes: rows * cols. counts: rows * cols, the result. work: at least 4 * rows * cols.
+ * codes: rows * cols. counts: rows * cols, the result. work: at least 4 * rows * cols; its first 2 * rows * cols elements come
+ * back as lent, whatever the answer, and are not touched: their pages need not be in memory.
  * Numbers: 5 6 7 8 9 11 12. Promise: CountsPromise.
  */
 tervuola_answer tervuola_counts(uint32_t rows, uint32_t cols,

@@ -1,9 +1,9 @@
-// Every call of libtervuola.a against the second program as it is after request 3, on its sheets, on sheets of ponds, on sheets cut from
+// Every call of libtervuola.a against the second program as it is after request 4, on its sheets, on sheets of ponds, on sheets cut from
 // larger ones, under all closed sides, on random codes, on cells and levels that are and are not there, and on wrong lengths.
 //   compare ROUNDS [SEED]      sheets up to 5 by 5, each size under each number of closed sides; then ROUNDS of sheets up to 40 by 40
 //   compare big KIND SIDE      one large sheet, by the second program's fast layer
 // A result buffer is lent with guard elements on both sides, and holds a pattern before the call; a no must leave it, and the work buffer
-// up to question 9, which 17 comes before.
+// up to question 9, which 17 comes before. The counts call must leave the first half of the work buffer beside every answer.
 #include "../../include/tervuola.h"
 #include "../second/gen.hpp"
 #include <cstring>
@@ -33,8 +33,10 @@ template <class T> struct Lent {
         return false;
     return true;
   }
-  bool untouched() const {
-    for (size_t i = 0; i < all.size(); i++)
+  bool untouched() const { return untouched(n + 16); }
+  // the first k elements, and the guard before them
+  bool untouched(size_t k) const {
+    for (size_t i = 0; i < all.size() && i < 16 + k; i++)
       if (all[i] != pattern(i))
         return false;
     return true;
@@ -136,12 +138,17 @@ static void one_sheet_round(const char *name, Call call, Said said, const Desc &
   same_work(name, a.number, work, round);
   answers[name][a.number]++;
 }
+// `kept`: so many places of the work buffer come back as lent, beside every answer
 template <class In, class Out, class Said>
-static void sheet_round(const char *name, sheet_call<In, Out> call, Said said, const Desc &d, const V<In> &in0, Lengths len, u64 round) {
+static void sheet_round(const char *name, sheet_call<In, Out> call, Said said, const Desc &d, const V<In> &in0, u64 kept, Lengths len, u64 round) {
   one_sheet_round<In, Out>(
       name,
       [&](const V<In> &in, Lent<Out> &out, Lent<u32> &work) {
-        return call((u32)d.rows, (u32)d.cols, in.data(), in.size(), out.at(), out.n, work.at(), work.n);
+        tervuola_answer a = call((u32)d.rows, (u32)d.cols, in.data(), in.size(), out.at(), out.n, work.at(), work.n);
+        checks++;
+        if (!work.untouched(kept))
+          fail(name, "a place of the work buffer that comes back as lent", round);
+        return a;
       },
       said, d, in0, len, round);
 }
@@ -158,6 +165,11 @@ static void outlets_round(const char *name, outlets_call<Out> call, Said said, c
 }
 static Reply said_counts(const Desc &d, const V<u8> &c, V<u32> &out, u64 work) { return call_counts(d.rows, d.cols, c, out, work); }
 static Reply said_labels(const Desc &d, const V<u8> &c, V<u32> &out, u64 work) { return call_labels(d.rows, d.cols, c, out, work); }
+// the calls from codes to one sheet
+static void code_rounds(const Desc &d, const V<u8> &codes, Lengths len, u64 round) {
+  sheet_round("counts", tervuola_counts, said_counts, d, codes, 2 * d.n(), len, round);
+  sheet_round("labels", tervuola_labels, said_labels, d, codes, 0, len, round);
+}
 static void watersheds_round(const Desc &d, const V<u8> &c0, gen::Rng &g, Lengths len, u64 round) {
   V<u8> c = resized(c0, len.of(c0.size()));
   V<u32> s(len.of(c0.size()));
@@ -519,8 +531,7 @@ static int rounds(u64 count, u64 seed) {
     d.closed = len.closed(d.closed);
     outlets_rounds(d, s.e, g, len, i);
     outlets_round("directions", tervuola_directions, call_directions, d, filled, len, i);
-    sheet_round("counts", tervuola_counts, said_counts, d, codes, len, i);
-    sheet_round("labels", tervuola_labels, said_labels, d, codes, len, i);
+    code_rounds(d, codes, len, i);
     watersheds_round(d, codes, g, len, i);
     starts_round(d, codes, g, len, i);
     pour_points_round(d, s.e, g, len, i);
@@ -560,8 +571,7 @@ static int big(const char *kind, u64 side) {
   directions(d, filled, codes);
   outlets_round("fill", tervuola_fill, call_fill, d, s.e, len, 0);
   outlets_round("directions", tervuola_directions, call_directions, d, filled, len, 0);
-  sheet_round("counts", tervuola_counts, said_counts, d, codes, len, 0);
-  sheet_round("labels", tervuola_labels, said_labels, d, codes, len, 0);
+  code_rounds(d, codes, len, 0);
   watersheds_round(d, codes, g, len, 0);
   starts_round(d, codes, g, len, 0);
   drain_round(d, s.e, len, 0);
@@ -583,7 +593,7 @@ static int big(const char *kind, u64 side) {
 }
 
 int main(int argc, char **argv) {
-  LEVEL = 3;
+  LEVEL = 4;
   if (argc == 4 && !strcmp(argv[1], "big"))
     return big(argv[2], strtoull(argv[3], 0, 10));
   if (argc < 2) {

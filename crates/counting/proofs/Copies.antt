@@ -1,10 +1,10 @@
--- A list that is copied from the front, place by place.
+-- The counts out of their words, copied place by place.
 use mathlib.Core.Path.{_≡_, refl, sym, _∙_}
 use mathlib.Core.List.{List}
 use Prim.Native.Nat.{ℕ, _+_, _%_, _≤_, _<_}
 use native.Mathlib.Omega.{arith}
-use lib.ListN.{length, getD, take, set, length-set}
-use lib.Seq.{getD-set-same, getD-set-other, getD-take, ext-getD, length-take-le}
+use lib.ListN.{length, getD, set, length-set}
+use lib.Seq.{getD-set-same, getD-set-other}
 use borrow.Author.Count.{below-more}
 use borrow.Author.Tests.{eq-eqb, ne-eqb}
 use Rattle.grid.specs.Below.{table}
@@ -17,39 +17,29 @@ use Rattle.count_laws.specs.Passing.{tally}
 use Rattle.accumulation.specs.Tail.{wordAt, Counted}
 use Rattle.counting.specs.Copied.{CountsOf}
 
--- the first i places of d hold f 0, f 1, ..
-pub record CopiedTo (i : ℕ) (f : ℕ → ℕ) (d₀ d : List ℕ) : Type 0 where
+-- the first i places of d have the counts of their words, which stand in t after n marks
+pub record CopiedTo (n : ℕ) (t : List ℕ) (i : ℕ) (d₀ d : List ℕ) : Type 0 where
   pub same-length : length d ≡ length d₀
-  pub copied : (k : ℕ) → k < i → getD d k 0 ≡ f k
+  pub copied : (c : ℕ) → c < i → getD d c 0 ≡ tally (wordAt n t c)
 
-pub copied-none : (f : ℕ → ℕ) (d : List ℕ) → CopiedTo 0 f d d
-copied-none f d = record { same-length = refl; copied = λ k l. let z : ⊥ = omega arith in absurd z }
+module _ (n : ℕ) (t : List ℕ) where
+  pub copied-none : (d : List ℕ) → CopiedTo n t 0 d d
+  copied-none d = record { same-length = refl; copied = λ c l. let z : ⊥ = omega arith in absurd z }
 
-pub copied-more : (i v : ℕ) (f : ℕ → ℕ) (d₀ d : List ℕ) → CopiedTo i f d₀ d → i < length d₀ → v ≡ f i → CopiedTo (i + 1) f d₀ (set d i v)
-copied-more i v f d₀ d C h e =
-    record {
-      same-length = length-set d i v ∙ C .same-length;
-      copied =
-          below-more _ i
-          (λ k l. getD-set-other d i k v 0 (λ q. let z : ⊥ = omega arith in absurd z) ∙ C .copied k l)
-          (getD-set-same d i v 0 (let q = C .same-length in omega arith) ∙ e);
-    }
+  pub copied-more : (i : ℕ) (d₀ d : List ℕ) → CopiedTo n t i d₀ d → i < length d₀ →
+      CopiedTo n t (i + 1) d₀ (set d i (getD t (n + i) 0 % 16777216))
+  unfolding tally
+  copied-more i d₀ d C h =
+      record {
+        same-length = length-set d i (getD t (n + i) 0 % 16777216) ∙ C .same-length;
+        copied =
+            below-more (λ c. getD (set d i (getD t (n + i) 0 % 16777216)) c 0 ≡ tally (wordAt n t c)) i
+            (λ c l. getD-set-other d i c (getD t (n + i) 0 % 16777216) 0 (λ q. let z : ⊥ = omega arith in absurd z) ∙ C .copied c l)
+            (getD-set-same d i (getD t (n + i) 0 % 16777216) 0 (let q = C .same-length in omega arith));
+      }
 
-pub copied-list : (s d₀ d : List ℕ) (i : ℕ) → length s ≤ length d₀ → length s ≤ i → CopiedTo i (λ k. getD s k 0) d₀ d →
-    take (length s) d ≡ s
-copied-list s d₀ d i h l C =
-    let q : length s ≤ length d = let a = C .same-length in omega arith in
-    let e : length (take (length s) d) ≡ length s = length-take-le (length s) d q in
-    ext-getD 0 (take (length s) d) s e (λ k m. getD-take (length s) d k 0 (omega arith) ∙ C .copied k (omega arith))
-
-pub copied-table : (n i : ℕ) (f : ℕ → ℕ) (d₀ d : List ℕ) → length d₀ ≡ n → n ≤ i → CopiedTo i f d₀ d → d ≡ table n f
-copied-table n i f d₀ d h l C = is-table n f d 0 (C .same-length ∙ h) (λ c m. C .copied c (omega arith))
-
--- a count out of its word
-pub copied-count : (n : ℕ) (t : List ℕ) (i : ℕ) (d₀ d : List ℕ) → CopiedTo i (λ k. tally (wordAt n t k)) d₀ d → i < length d₀
-    → CopiedTo (i + 1) (λ k. tally (wordAt n t k)) d₀ (set d i (getD t (n + i) 0 % 16777216))
-unfolding tally
-copied-count n t i d₀ d C h = copied-more i (getD t (n + i) 0 % 16777216) (λ k. tally (wordAt n t k)) d₀ d C h refl
+  pub copied-all : (i : ℕ) (d₀ d : List ℕ) → length d₀ ≡ n → n ≤ i → CopiedTo n t i d₀ d → d ≡ table n (λ c. tally (wordAt n t c))
+  copied-all i d₀ d h l C = is-table n (λ c. tally (wordAt n t c)) d 0 (C .same-length ∙ h) (λ c m. C .copied c (omega arith))
 
 -- ---- what the counts are
 pub no-counts : (n : ℕ) (t₀ t₁ counts₀ : List ℕ) (r : ℕ) → Counted n t₀ t₁ r → r < n → CountsOf n t₀ t₁ counts₀ counts₀ r

@@ -1,11 +1,11 @@
 -- A tail that begins with the receivers of a sheet of codes: its marks, its first endless cell and its counts are the sheet's.
 use mathlib.Core.Path.{_≡_, sym, _∙_, ap, subst}
-use mathlib.Core.Bool.{not, _&&_}
+use mathlib.Core.Bool.{cond, not, _&&_}
 use mathlib.Core.List.{List, _++_}
-use Prim.Native.Nat.{ℕ, _≤_}
+use Prim.Native.Nat.{ℕ, _+_, _≤_, _<_}
 use lib.Dec.{eqb}
-use lib.ListN.{length, getD, take, drop}
-use lib.Seq.{getD-take, take-at, drop-at, length-take-le}
+use lib.ListN.{length, getD, take}
+use lib.Seq.{getD-take, take-at}
 use Rattle.grid.specs.declared.Grid.{Grid}
 use Rattle.grid.specs.Below.{table, has}
 use Rattle.grid.specs.Sheet.{size}
@@ -18,7 +18,8 @@ use Rattle.route_laws.proofs.Receivers.{at-receivers, length-receivers, receive
 use Rattle.count_laws.specs.Inflow.{routeCount}
 use Rattle.count_laws.specs.Passing.{FewDonors}
 use Rattle.count_laws.proofs.Sheet.{sheet-few}
-use Rattle.accumulation.specs.Tail.{markAt}
+use Rattle.accumulation.specs.Tail.{markAt, Roomy}
+use Rattle.counting.specs.Copied.{CountsOf}
 
 module _ (g : Grid) (codes : List ℕ) (long : length codes ≡ size g) (t : List ℕ) (marks : take (size g) t ≡ receivers g codes) where
   pub tail-marks : Marks (size g) (take (size g) t)
@@ -46,10 +47,19 @@ module _ (g : Grid) (codes : List ℕ) (long : length codes ≡ size g) (t : Lis
       (λ d. not (eqb d c) && has c (follow (hasCode codes) (receiver g codes) (size g) d))
       (λ d h. ap (λ (x : List ℕ). not (eqb d c) && has c x) (same-route g codes long (size g) d)))
 
--- where the receivers stand in a buffer
-pub receivers-first : (g : Grid) (codes rest : List ℕ) → length codes ≡ size g →
-    take (size g) (receivers g codes ++ rest) ≡ receivers g codes
-receivers-first g codes rest long = take-at (receivers g codes) rest (size g) (length-receivers g codes long)
+-- as the receivers are left
+module _ (g : Grid) (codes rest t : List ℕ) (long : length codes ≡ size g) (e : t ≡ receivers g codes ++ rest) where
+  pub front : take (size g) t ≡ receivers g codes
+  front = ap (take (size g)) e ∙ take-at (receivers g codes) rest (size g) (length-receivers g codes long)
 
-pub tail-after : (half : ℕ) (w x : List ℕ) → half ≤ length w → drop half (take half w ++ x) ≡ x
-tail-after half w x h = drop-at (take half w) x half (length-take-le half w h)
+  pub ready-to-count : size g < 16777216 → size g + size g ≤ length t →
+      Roomy (size g) t × (Marks (size g) (take (size g) t) × FewDonors (size g) (markAt t))
+  ready-to-count small room =
+      (record { long = room; small = small }, (tail-marks g codes long t front, tail-few g codes long t front))
+
+  pub sheet-counts : (t₁ counts₀ counts₁ : List ℕ) (r : ℕ) → CountsOf (size g) t t₁ counts₀ counts₁ r →
+      (r ≡ firstEndless g codes) × (counts₁ ≡ cond (eqb r (size g)) (counts g codes) counts₀)
+  sheet-counts t₁ counts₀ counts₁ r C = (
+    C .first ∙ tail-first g codes long t front,
+    C .result ∙ ap (λ (l : List ℕ). cond (eqb r (size g)) l counts₀) (tail-counts g codes long t front),
+  )

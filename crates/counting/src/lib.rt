@@ -1,6 +1,6 @@
 // Counts from the marks at the front of a lent tail (`route_laws`, `specs/Receivers`), written to the result only when question 12 is
-// answered: "A no changes no result buffer". The counts call and the one call share this; the copy of the codes, which the counts call
-// makes first, stands here too. `proofs/Sheet` carries marks, counts and the first endless cell over to a sheet of codes.
+// answered: "A no changes no result buffer". The counts call and the one call share this. `proofs/Sheet` carries marks, counts and the
+// first endless cell over to a sheet of codes.
 ghost use mathlib.Core.Path.{_≡_};
 ghost use Prim.Native.Nat.{ℕ, _+_, _<_, _≤_};
 ghost use lib.ListN.{length, take};
@@ -9,24 +9,6 @@ ghost use Rattle.route_laws.specs.Receivers.{Marks};
 ghost use Rattle.count_laws.specs.Passing.{tally, FewDonors};
 ghost use Rattle.accumulation.specs.Tail.{markAt, wordAt, Roomy};
 ghost use Rattle.counting.specs.Copied.{CountsOf};
-
-fn widen(code: u8) -> u32
-    ensures { λ r. ⌜ r ≡ code ⌝ }
-{
-    code as u32
-}
-
-// The codes, one to a word, at the front of the work buffer.
-pub fn copy_codes(codes: &[u8], work: &mut [u32])
-    requires { ⌜ length (now codes) ≤ length (now work) ⌝ }
-    ensures { λ _. ⌜ take (length (now (codes .entry))) (now (work .exit)) ≡ now (codes .entry) ⌝ }
-{
-    let mut i = 0;
-    while i < codes.len() {
-        work[i] = widen(codes[i]);
-        i += 1;
-    }
-}
 
 // The counts of the words that stand after n marks.
 fn copy_counts(n: usize, tail: &[u32], counts: &mut [u32])

@@ -1,3 +1,2 @@
--- Where the receivers of the copy stand; and the promise, by the answer.
-pub mod Into
+-- The lemmas of this crate.
 pub mod Promise

@@ -1,21 +1,35 @@
 // The call `counts` of document 01: from a sheet of codes, of each cell "the number of other cells whose routes contain it". Questions 5
-// to 9, then 11 and 12. "The counts call first copies the codes into the first half and counts from that copy": the receivers of the copy
-// go into the second half, where one pass down the routes counts (crates `receivers`, `accumulation`). The result is written when the last
-// question is answered.
+// to 9, then 11 and 12. The receivers of the codes go into the second half of the work buffer, where one pass down the routes counts (crates
+// `receivers`, `accumulation`); the first half stays as it was lent (request 4). The result is written when the last question is answered.
 use grid::Answer;
 use grid::Grid;
 ghost use mathlib.Core.Path.{_≡_};
 ghost use mathlib.Core.Bool.{cond};
 ghost use Prim.Native.Nat.{_*_, _<_, _≤_};
 ghost use lib.Dec.{eqb};
-ghost use lib.ListN.{length};
+ghost use lib.ListN.{length, take};
 ghost use Rattle.grid.specs.Sheet.{size};
 ghost use Rattle.grid.specs.Routes.{counts as counts', firstEndless};
 ghost use Rattle.grid.specs.Promises.{CountsPromise};
 ghost use Rattle.route_laws.specs.Receivers.{AllCodes};
 ghost use Rattle.checks.specs.Sizes.{Fits};
 
-// The counts, if every route ends; the result is the first cell whose route does not, or rows * cols.
+// The counts, if every route ends, by way of the lent tail; the result is the first cell whose route does not, or rows * cols.
+fn counts_in(g: Grid, codes: &[u8], counts: &mut [u32], tail: &mut [u32]) -> usize
+    requires { ⌜ Fits g ⌝ }
+    requires { ⌜ length (now codes) ≡ size g ⌝ }
+    requires { ⌜ length (now counts) ≡ size g ⌝ }
+    requires { ⌜ 2 * size g ≤ length (now tail) ⌝ }
+    requires { ⌜ AllCodes (now codes) ⌝ }
+    ensures { λ r. ⌜ r ≡ firstEndless g (now (codes .entry)) ⌝ }
+    ensures { λ r. ⌜ now (counts .exit) ≡ cond (eqb r (size g)) (counts' g (now (codes .entry))) (now (counts .entry)) ⌝ }
+{
+    let n = g.rows * g.cols;
+    receivers::receivers_from(g, codes, tail);
+    counting::counts_of(n, tail, counts)
+}
+
+// The same, by way of the second half of the work buffer; the first half stays as it was lent.
 fn counts_into(g: Grid, codes: &[u8], counts: &mut [u32], work: &mut [u32]) -> usize
     requires { ⌜ Fits g ⌝ }
     requires { ⌜ length (now codes) ≡ size g ⌝ }
@@ -24,12 +38,10 @@ fn counts_into(g: Grid, codes: &[u8], counts: &mut [u32], work: &mut [u32]) -> u
     requires { ⌜ AllCodes (now codes) ⌝ }
     ensures { λ r. ⌜ r ≡ firstEndless g (now (codes .entry)) ⌝ }
     ensures { λ r. ⌜ now (counts .exit) ≡ cond (eqb r (size g)) (counts' g (now (codes .entry))) (now (counts .entry)) ⌝ }
+    ensures { λ r. ⌜ take (2 * size g) (now (work .exit)) ≡ take (2 * size g) (now (work .entry)) ⌝ }
 {
-    let n = g.rows * g.cols;
     let half = work.len() / 2;
-    counting::copy_codes(codes, work);
-    receivers::receivers_from_copy(g, work, half);
-    counting::counts_of(n, &mut work[half..], counts)
+    counts_in(g, codes, counts, &mut work[half..])
 }
 
 // Codes to counts.

@@ -3,12 +3,12 @@ use mathlib.Core.Path.{_≡_, refl, sym, _∙_, ap, subst}
 use mathlib.Core.Logic.{_⊎_, inl, inr, ⊎-elim}
 use mathlib.Core.Bool.{Bool, true, false, not, cond, _&&_}
 use mathlib.Core.List.{List}
-use Prim.Native.Nat.{ℕ, _+_, _-_, _*_, _/_, _%_, _^_, _≤_, _<_}
+use Prim.Native.Nat.{ℕ, _+_, _*_, _/_, _%_, _^_, _≤_, _<_}
 use native.Mathlib.Omega.{arith}
 use native.Mathlib.Decide.{decLt}
 use lib.Dec.{eqb, ltb, lit<}
-use lib.ListN.{length, getD, take, set, replicate, length-set}
-use lib.Seq.{getD-take, length-take-le, getD-set-same, getD-set-other}
+use lib.ListN.{length, getD, set, replicate, length-set}
+use lib.Seq.{getD-set-same, getD-set-other}
 use borrow.Author.Count.{below-more}
 use borrow.Author.Tests.{eqb-true, ltb-true}
 use Rattle.grid.specs.declared.Grid.{Grid}
@@ -175,40 +175,6 @@ module _ (g : Grid) (codes : List ℕ) (long : length codes ≡ size g) (all : A
     mark-on z =
         sym (cond-true _ _ (has c f)
         ∙ cond-true _ _ (has (receiver g codes c) (λ q. z (subst (λ (x : ℕ). getD codes x 0 ≡ 0) (sym is-receiver) q))) ∙ sym is-receiver)
-
--- ---- the same, by a copy of the codes at the front of a buffer
-module _ (g : Grid) (work : List ℕ) (long : size g ≤ length work) (all : AllCodes (take (size g) work)) (c : ℕ) (hc : c < size g) where
-  in-copy : (d : ℕ) → d < size g → getD (take (size g) work) d 0 ≡ getD work d 0
-  in-copy d h = getD-take (size g) work d 0 h
-
-  long-copy : length (take (size g) work) ≡ size g
-  long-copy = length-take-le (size g) work long
-
-  pub copy-zero : getD work c 0 ≡ 0 → size g + 1 ≡ receiverMark g (take (size g) work) c
-  copy-zero e = mark-zero g (take (size g) work) long-copy all c (in-copy c hc ∙ e)
-
-  module _ (f : getD work c 0 ≡ 0 → ⊥) where
-    coded : getD (take (size g) work) c 0 ≡ 0 → ⊥
-    coded e = f (sym (in-copy c hc) ∙ e)
-
-    pub copy-position : positionOf (getD work c 0) < 8
-    copy-position = subst (λ (k : ℕ). positionOf k < 8) (in-copy c hc) (position-small g (take (size g) work) long-copy all c coded)
-
-    pub copy-byte : getD work c 0 < 256
-    copy-byte = rw (code-of-position (getD work c 0) copy-position) (codes-small (positionOf (getD work c 0)) copy-position)
-
-    module _ {d : ℕ} (e : d ≡ neighbour g c (positionOf (getD work c 0))) where
-      pointed : d ≡ neighbour g c (positionOf (getD (take (size g) work) c 0))
-      pointed = e ∙ ap (λ (k : ℕ). neighbour g c (positionOf k)) (sym (in-copy c hc))
-
-      pub copy-off : size g ≤ d → size g ≡ receiverMark g (take (size g) work) c
-      copy-off h = mark-off g (take (size g) work) long-copy all c coded pointed h
-
-      pub copy-stop : d < size g → getD work d 0 ≡ 0 → size g ≡ receiverMark g (take (size g) work) c
-      copy-stop h z = mark-stop g (take (size g) work) long-copy all c coded pointed (in-copy d h ∙ z)
-
-      pub copy-on : d < size g → (getD work d 0 ≡ 0 → ⊥) → d ≡ receiverMark g (take (size g) work) c
-      copy-on h z = mark-on g (take (size g) work) long-copy all c coded pointed (λ q. z (sym (in-copy d h) ∙ q))
 
 -- from a cell within the border: the neighbour lies at the table's offset
 pub reached : (g : Grid) (c row col k : ℕ) (reach : List ℕ) → size g < 2 ^ 24 → row ≡ c / g .cols → col ≡ c % g .cols →

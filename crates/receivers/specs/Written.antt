@@ -29,9 +29,8 @@ pub record ReachTable (cols : ℕ) (reach : List ℕ) : Type 0 where
   pub long : length reach ≡ 256
   pub at : (p : ℕ) → p < 8 → getD reach (codeAt p) 0 ≡ downOf p * cols + rightOf p
 
--- the first i receivers stand from `base` on, and every other place is as at entry
-pub record WrittenTo (g : Grid) (codes : List ℕ) (base i : ℕ) (t₀ t : List ℕ) : Type 0 where
+-- the first i receivers stand at the front, and every other place is as at entry
+pub record WrittenTo (g : Grid) (codes : List ℕ) (i : ℕ) (t₀ t : List ℕ) : Type 0 where
   pub same-length : length t ≡ length t₀
-  pub written : (c : ℕ) → c < i → getD t (base + c) 0 ≡ receiverMark g codes c
-  pub before : (k : ℕ) → k < base → getD t k 0 ≡ getD t₀ k 0
-  pub after : (k : ℕ) → base + i ≤ k → getD t k 0 ≡ getD t₀ k 0
+  pub written : (c : ℕ) → c < i → getD t c 0 ≡ receiverMark g codes c
+  pub after : (k : ℕ) → i ≤ k → getD t k 0 ≡ getD t₀ k 0

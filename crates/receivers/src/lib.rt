@@ -1,15 +1,14 @@
 // Question 11, and the list of receivers of a sheet of codes: for each cell the next cell of its route, size where the route ends there,
 // size + 1 where there is no code (`route_laws`, `specs/Receivers`). "A route .. ends at the first cell whose code points off the sheet or
-// at a cell with code 0." The list is written into the lent tail, from the codes, or from the copy of them that the counts call has in the
-// first half of the work buffer. Tables by code, made once for a sheet, say what is a code and at which offset its neighbour lies in the
-// numbering, so only cells of the border look at rows and columns. Proof: each function gives one element of the definition, and a loop
-// collects them.
+// at a cell with code 0." The list is written into the lent tail. Tables by code, made once for a sheet, say what is a code and at which
+// offset its neighbour lies in the numbering, so only cells of the border look at rows and columns. Proof: each function gives one element
+// of the definition, and a loop collects them.
 use cells::Direction;
 use grid::Grid;
 ghost use mathlib.Core.Path.{_≡_};
 ghost use mathlib.Core.List.{_++_};
 ghost use Prim.Native.Nat.{_+_, _*_, _/_, _%_, _<_, _≤_, _^_};
-ghost use lib.ListN.{length, take, drop, set};
+ghost use lib.ListN.{length, drop, set};
 ghost use Rattle.grid.specs.Sheet.{size, positionOf, neighbour};
 ghost use Rattle.grid.specs.Routes.{firstBadCode};
 ghost use Rattle.route_laws.specs.Receivers.{receiverMark, receivers, AllCodes};
@@ -115,40 +114,6 @@ fn mark(g: Grid, table: &[usize; 256], codes: &[u8], cell: usize, row: usize, co
     next
 }
 
-// The mark of a cell, by the copy of the codes at the front of the work buffer.
-fn mark_of_copy(
-    g: Grid,
-    table: &[usize; 256],
-    work: &[u32],
-    cell: usize,
-    row: usize,
-    col: usize,
-) -> usize
-    requires { ⌜ size g < 2 ^ 24 ⌝ }
-    requires { ⌜ size g ≤ length (now work) ⌝ }
-    requires { ⌜ AllCodes (take (size g) (now work)) ⌝ }
-    requires { ⌜ cell < size g ⌝ }
-    requires { ⌜ row ≡ cell / g .cols ⌝ }
-    requires { ⌜ col ≡ cell % g .cols ⌝ }
-    requires { ⌜ ReachTable (g .cols) (now table) ⌝ }
-    ensures { λ r. ⌜ r ≡ receiverMark g (take (size g) (now (work .entry))) cell ⌝ }
-    ensures { λ r. ⌜ r ≤ size g + 1 ⌝ }
-{
-    let n = g.rows * g.cols;
-    let code = work[cell];
-    if code == 0 {
-        return n + 1;
-    }
-    let next = pointed_at(g, table, cell, row, col, code as u8);
-    if next >= n {
-        return n;
-    }
-    if work[next] == 0 {
-        return n;
-    }
-    next
-}
-
 // Writes the mark of one cell.
 fn write_mark(
     g: Grid,
@@ -170,30 +135,6 @@ fn write_mark(
     ensures { λ _. ⌜ now (tail .exit) ≡ set (now (tail .entry)) cell (receiverMark g (now (codes .entry)) cell) ⌝ }
 {
     tail[cell] = mark(g, table, codes, cell, row, col) as u32;
-}
-
-// The same by the copy; the list of receivers begins at `half`.
-fn write_mark_of_copy(
-    g: Grid,
-    table: &[usize; 256],
-    work: &mut [u32],
-    half: usize,
-    cell: usize,
-    row: usize,
-    col: usize,
-)
-    requires { ⌜ size g < 2 ^ 24 ⌝ }
-    requires { ⌜ size g ≤ half ⌝ }
-    requires { ⌜ half + size g ≤ length (now work) ⌝ }
-    requires { ⌜ AllCodes (take (size g) (now work)) ⌝ }
-    requires { ⌜ cell < size g ⌝ }
-    requires { ⌜ row ≡ cell / g .cols ⌝ }
-    requires { ⌜ col ≡ cell % g .cols ⌝ }
-    requires { ⌜ ReachTable (g .cols) (now table) ⌝ }
-    ensures { λ _. ⌜ now (work .exit) ≡ set (now (work .entry)) (half + cell) (receiverMark g (take (size g) (now (work .entry))) cell) ⌝ }
-{
-    let next = mark_of_copy(g, table, work, cell, row, col);
-    work[half + cell] = next as u32;
 }
 
 // The row of the cell after one that stands in row `row` and column `col`.
@@ -230,7 +171,7 @@ fn write_marks(g: Grid, table: &[usize; 256], codes: &[u8], tail: &mut [u32])
     requires { ⌜ AllCodes (now codes) ⌝ }
     requires { ⌜ ReachTable (g .cols) (now table) ⌝ }
     requires { ⌜ size g ≤ length (now tail) ⌝ }
-    ensures { λ _. ⌜ WrittenTo g (now (codes .entry)) 0 (size g) (now (tail .entry)) (now (tail .exit)) ⌝ }
+    ensures { λ _. ⌜ WrittenTo g (now (codes .entry)) (size g) (now (tail .entry)) (now (tail .exit)) ⌝ }
 {
     let cols = g.cols;
     let n = g.rows * cols;
@@ -239,28 +180,6 @@ fn write_marks(g: Grid, table: &[usize; 256], codes: &[u8], tail: &mut [u32])
     let mut col = 0;
     while cell < n {
         write_mark(g, table, codes, tail, cell, row, col);
-        row = row_after(cols, cell, row, col);
-        col = col_after(cols, cell, col);
-        cell += 1;
-    }
-}
-
-// The same by the copy.
-fn write_marks_of_copy(g: Grid, table: &[usize; 256], work: &mut [u32], half: usize)
-    requires { ⌜ size g < 2 ^ 24 ⌝ }
-    requires { ⌜ size g ≤ half ⌝ }
-    requires { ⌜ half + size g ≤ length (now work) ⌝ }
-    requires { ⌜ AllCodes (take (size g) (now work)) ⌝ }
-    requires { ⌜ ReachTable (g .cols) (now table) ⌝ }
-    ensures { λ _. ⌜ WrittenTo g (take (size g) (now (work .entry))) half (size g) (now (work .entry)) (now (work .exit)) ⌝ }
-{
-    let cols = g.cols;
-    let n = g.rows * cols;
-    let mut cell = 0;
-    let mut row = 0;
-    let mut col = 0;
-    while cell < n {
-        write_mark_of_copy(g, table, work, half, cell, row, col);
         row = row_after(cols, cell, row, col);
         col = col_after(cols, cell, col);
         cell += 1;
@@ -278,18 +197,4 @@ pub fn receivers_from(g: Grid, codes: &[u8], tail: &mut [u32])
 {
     let table = reach_table(g.cols);
     write_marks(g, &table, codes, tail);
-}
-
-// The list of receivers, from `half` on, of the codes that stand at the front of the work buffer.
-pub fn receivers_from_copy(g: Grid, work: &mut [u32], half: usize)
-    requires { ⌜ size g < 2 ^ 24 ⌝ }
-    requires { ⌜ 1 ≤ g .rows ⌝ }
-    requires { ⌜ size g ≤ half ⌝ }
-    requires { ⌜ half + size g ≤ length (now work) ⌝ }
-    requires { ⌜ AllCodes (take (size g) (now work)) ⌝ }
-    ensures { λ _. ⌜ now (work .exit) ≡ take half (now (work .entry))
-        ++ (receivers g (take (size g) (now (work .entry))) ++ drop (half + size g) (now (work .entry))) ⌝ }
-{
-    let table = reach_table(g.cols);
-    write_marks_of_copy(g, &table, work, half);
 }

@@ -14,7 +14,7 @@ use Rattle.route_laws.specs.Receivers.{receivers, Marks}
 use Rattle.count_laws.specs.Passing.{FewDonors}
 use Rattle.accumulation.specs.Tail.{markAt, Roomy}
 use Rattle.accumulation.specs.Tail as T
-use Rattle.counting.proofs.Sheet.{tail-marks, tail-few, tail-first, receivers-first}
+use Rattle.counting.proofs.Sheet.{tail-first, front, ready-to-count}
 use Rattle.checks.proofs.Questions.{endless-≤, cell-no, cell-yes}
 use Rattle.starting.specs.Marked.{startBy, startNumber}
 use Rattle.starting.proofs.Starts.{count-is, starts-are}
@@ -24,20 +24,11 @@ use Rattle.starts.specs.Into.{Started}
 module _ (g : Grid) (codes t₀ t₁ : List ℕ) (fits : Fits g) (long : length codes ≡ size g) (room : 2 * size g ≤ length t₀)
     (same : length t₁ ≡ length t₀)
     (written : t₁ ≡ receivers g codes ++ drop (size g) t₀) where
-  pub small : size g < 16777216
-  small = let h = fits .cells in omega arith
-
   pub marks-are : take (size g) t₁ ≡ receivers g codes
-  marks-are = ap (take (size g)) written ∙ receivers-first g codes (drop (size g) t₀) long
+  marks-are = front g codes (drop (size g) t₀) t₁ long written
 
-  pub is-roomy : Roomy (size g) t₁
-  is-roomy = record { long = omega arith; small = small }
-
-  pub is-marked : Marks (size g) (take (size g) t₁)
-  is-marked = tail-marks g codes long t₁ marks-are
-
-  pub has-few : FewDonors (size g) (markAt t₁)
-  has-few = tail-few g codes long t₁ marks-are
+  pub ready : Roomy (size g) t₁ × (Marks (size g) (take (size g) t₁) × FewDonors (size g) (markAt t₁))
+  ready = let f = fits .cells in ready-to-count g codes (drop (size g) t₀) t₁ long written (omega arith) (omega arith)
 
   module _ (t₂ : List ℕ) (first : ℕ) (C : T.Counted (size g) t₁ t₂ first) (counts : List ℕ) (threshold : ℕ) (starts₀ : List ℕ) where
     first-is : first ≡ firstEndless g codes

@@ -2,20 +2,18 @@
 use Prim.Native.Nat.{_-_, _≤_}
 use native.Mathlib.Omega.{arith}
 use borrow.Author.Needs.{needs}
-use Rattle.count_laws.specs.Passing.{tally}
-use Rattle.accumulation.specs.Tail.{wordAt}
-use Rattle.counting.proofs.Copies.{CopiedTo, copied-none, copied-count, copied-table}
+use Rattle.counting.proofs.Copies.{CopiedTo, copied-none, copied-more, copied-all}
 use Rattle.counting.proofs.copy_counts.Statement.{statement}
 use Rattle.counting.proofs.copy_counts.Tie as tie
 
 abbrev Inv-loop : tie.InvT-loop
-Inv-loop n tail counts₀ i₀ counts i = (i ≤ n) × CopiedTo i (λ k. tally (wordAt n tail k)) counts₀ counts
+Inv-loop n tail counts₀ i₀ counts i = (i ≤ n) × CopiedTo n tail i counts₀ counts
 
 abbrev μ-loop : tie.MeasureT-loop
 μ-loop n tail counts₀ i₀ counts i = n - i
 
 loop-holds : tie.Need-loop-holds Inv-loop μ-loop
-loop-holds c = (omega arith, copied-none _ _)
+loop-holds c = (omega arith, copied-none _ _ _)
 
 add-counts : tie.Need-add-counts Inv-loop μ-loop
 add-counts c = omega arith
@@ -43,7 +41,7 @@ loop-again c =
     let s = c .before .before .before in
     let l = c .before .loop-test .taken in (
       omega arith,
-      copied-count (s .args .n) (s .args .tail .now) _ _ _ (c .before .before .loop .inv .1)
+      copied-more (s .args .n) (s .args .tail .now) _ _ _ (c .before .before .loop .inv .1)
           (let h = s .pre .1 in omega arith),
     )
 
@@ -51,7 +49,7 @@ same-length : tie.Need-same-length Inv-loop μ-loop
 same-length c = c .before .loop .inv .1 .same-length
 
 returns : tie.Need-returns Inv-loop μ-loop
-returns c = copied-table _ _ _ _ _ (c .before .before .pre .1) (c .loop-test .left) (c .before .loop .inv .1)
+returns c = copied-all _ _ _ _ _ (c .before .before .pre .1) (c .loop-test .left) (c .before .loop .inv .1)
 
 pub copy-counts-spec : {M : Type 1} → statement M
 copy-counts-spec =

@@ -1,4 +1,5 @@
 -- Each return is one answer of the questions, in their order, and `Promise` has the promise for it.
+use mathlib.Core.Path.{refl}
 use native.Mathlib.Omega.{arith}
 use Rattle.receivers.proofs.Codes.{all-codes}
 use Rattle.checks.proofs.FromCodes.{refused-promise, sizes, bad-promise, none-bad, endless-promise, made-promise}
@@ -14,7 +15,7 @@ returns : tie.Need-returns
 returns c =
     let a = c .before .before .before .before .before .before .args in
     let k = c .before .before .check in
-    promise (refused-promise (a .g) (a .codes .now) (a .counts .now) (a .work .now) (k .result) (k .ensures) (c .if1 .taken))
+    promise (refused-promise (a .g) (a .codes .now) (a .counts .now) (a .work .now) (k .result) (k .ensures) (c .if1 .taken)) refl
 
 first-bad-code-requires : tie.Need-first-bad-code-requires
 first-bad-code-requires c κs =
@@ -38,7 +39,7 @@ returns-2 c =
     let k = c .before .before .before .before .check in
     let b = c .before .first-bad-code in
     promise (bad-promise (a .g) (a .codes .now) (a .counts .now) (a .work .now) (k .result) (k .ensures) (c .before .before .if1 .left)
-    (b .result) (b .ensures) (c .if2 .taken))
+    (b .result) (b .ensures) (c .if2 .taken)) refl
 
 counts-into-requires : tie.Need-counts-into-requires
 counts-into-requires c κs =
@@ -80,7 +81,7 @@ returns-3 c =
     (b .ensures) (d .before .before .before .if2 .left) in
     promise (endless-promise (a .g) (a .codes .now) (a .counts .now) (a .work .now) (k .result) (k .ensures) (m .if1 .left) e (z .result)
     (z .ensures .0)
-    (z .last .1 .1 .0) (z .last .1 .1 .1 .0) (z .ensures .1) (z .kept .1 .1 .1 .0) (c .if3 .taken))
+    (z .last .1 .1 .0) (z .last .1 .1 .1 .0) (z .ensures .1 .0) (z .kept .1 .1 .1 .0) (c .if3 .taken)) (z .ensures .1 .1)
 
 same-length-3 : tie.Need-same-length-3
 same-length-3 c = search needs
@@ -100,7 +101,7 @@ returns-4 c =
     (b .ensures) (d .before .before .before .if2 .left) in
     promise (made-promise (a .g) (a .codes .now) (a .counts .now) (a .work .now) (k .result) (k .ensures) (m .if1 .left) e (z .result)
     (z .ensures .0)
-    (z .last .1 .1 .0) (z .last .1 .1 .1 .0) (z .ensures .1) (z .kept .1 .1 .1 .0) (c .if3 .left))
+    (z .last .1 .1 .0) (z .last .1 .1 .1 .0) (z .ensures .1 .0) (z .kept .1 .1 .1 .0) (c .if3 .left)) (z .ensures .1 .1)
 
 pub counts-spec : {M : Type 1} → statement M
 counts-spec =

@@ -1,6 +1,6 @@
 use native.Mathlib.Omega.{arith}
 use lib.ListN.{length}
-use Rattle.drainage.proofs.Routed.{ready-to-count, ready-to-label, counts-right, labels-right}
+use Rattle.drainage.proofs.Routed.{ready, ready-to-label, counts-right, labels-right}
 use borrow.Author.Needs.{needs}
 use Rattle.drainage.proofs.route_results.Statement.{statement}
 use Rattle.drainage.proofs.route_results.Tie as tie
@@ -25,7 +25,7 @@ counts-of-requires c κs =
     let s = c .before .before .before .before .before .before .before .before .before .before .before in
     let a = s .args in
     let w = c .before .before .before .before .receivers-from in
-    let q = ready-to-count (a .g) (a .codes .now) (length (a .counts .now)) (length (a .labels .now)) (a .tail .now)
+    let q = ready (a .g) (a .codes .now) (length (a .counts .now)) (length (a .labels .now)) (a .tail .now)
     (w .last .1 .1 .0) (s .pre)
     (w .kept .1 .1 .0) (w .ensures) in
     (q .0, (q .1 .0, (q .1 .1, s .pre .counts-have)))

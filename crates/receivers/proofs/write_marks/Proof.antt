@@ -1,10 +1,9 @@
 -- The marks of the cells passed stand; row and column are those of the present cell.
 use Prim.Native.Nat.{ℕ, _+_, _-_, _/_, _%_, _≤_}
-use mathlib.Core.Path.{_≡_, sym, subst}
+use mathlib.Core.Path.{_≡_, subst}
 use native.Mathlib.Omega.{arith}
 use borrow.Author.Needs.{needs}
 use denote.Ref.{now}
-use mathlib.Core.List.{List}
 use native.Mathlib.Nat.{mod-lt, mod-le, div-le-self}
 use Rattle.grid.specs.Sheet.{size}
 use Rattle.grid_laws.proofs.Neighbours.{cols-positive}
@@ -15,7 +14,7 @@ use Rattle.receivers.proofs.write_marks.Tie as tie
 
 abbrev Inv-loop : tie.InvT-loop
 Inv-loop g table codes tail₀ cols n cell₀ row₀ col₀ tail cell row col =
-    (cell ≤ size g) × (row ≡ cell / g .cols) × (col ≡ cell % g .cols) × WrittenTo g codes 0 cell tail₀ tail
+    (cell ≤ size g) × (row ≡ cell / g .cols) × (col ≡ cell % g .cols) × WrittenTo g codes cell tail₀ tail
 
 abbrev μ-loop : tie.MeasureT-loop
 μ-loop g table codes tail₀ cols n cell₀ row₀ col₀ tail cell row col = size g - cell
@@ -29,7 +28,7 @@ loop-holds c =
       omega arith,
       omega (arith, div-le-self 0 (s .args .g .cols)),
       omega (arith, mod-le 0 (s .args .g .cols)),
-      written-none (s .args .g) (now (s .args .codes)) 0 (now (s .args .tail)),
+      written-none (s .args .g) (now (s .args .codes)) (now (s .args .tail)),
     )
 
 write-mark-requires : tie.Need-write-mark-requires Inv-loop μ-loop
@@ -74,9 +73,8 @@ loop-again c =
       omega arith,
       c .before .row-after .ensures,
       c .col-after .ensures,
-      subst (λ (x : List ℕ). WrittenTo (s .args .g) (now (s .args .codes)) 0 (l .cell + 1) (now (s .args .tail)) x) (sym (w .ensures))
-          (written-more (s .args .g) (now (s .args .codes)) 0 (now (s .args .tail)) (l .cell) (l .cell) (l .tail) (l .inv .3) (omega arith)
-          (let h = s .pre .1 .1 .1 .1 in omega arith)),
+      written-more (s .args .g) (now (s .args .codes)) (now (s .args .tail)) (l .cell) (l .tail) (w .last .1 .1 .1 .0) (l .inv .3)
+          (let h = s .pre .1 .1 .1 .1 in omega arith) (w .ensures),
     )
 
 same-length : tie.Need-same-length Inv-loop μ-loop
@@ -88,7 +86,7 @@ returns c =
     let l = c .before .loop in
     let h = l .inv .0 in
     let e : l .cell ≡ size (s .args .g) = omega arith in
-    subst (λ (i : ℕ). WrittenTo (s .args .g) (now (s .args .codes)) 0 i (now (s .args .tail)) (l .tail)) e (l .inv .3)
+    subst (λ (i : ℕ). WrittenTo (s .args .g) (now (s .args .codes)) i (now (s .args .tail)) (l .tail)) e (l .inv .3)
 
 pub write-marks-spec : {M : Type 1} → statement M
 write-marks-spec =

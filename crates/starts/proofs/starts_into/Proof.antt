@@ -1,6 +1,6 @@
 -- The tail begins with the receivers after each step, so the starts by marks are those of the codes.
 use native.Mathlib.Omega.{arith}
-use Rattle.starts.proofs.Into.{is-roomy, is-marked, has-few, endless-started, all-started}
+use Rattle.starts.proofs.Into.{ready, endless-started, all-started}
 use borrow.Author.Needs.{needs}
 use Rattle.starts.proofs.starts_into.Statement.{statement}
 use Rattle.starts.proofs.starts_into.Tie as tie
@@ -23,14 +23,7 @@ count-routes-requires c κs =
     let a = s .args in
     let p = s .pre in
     let q = c .before .before .before .receivers-from in
-    let t = q .last .1 .1 .0 in
-    let m = q .kept .1 .1 .0 in (
-      is-roomy (a .g) (a .codes .now) (a .tail .now) t (p .0) (p .1 .0) (p .1 .1 .1 .1 .0) m (q .ensures),
-      (
-        is-marked (a .g) (a .codes .now) (a .tail .now) t (p .0) (p .1 .0) (p .1 .1 .1 .1 .0) m (q .ensures),
-        has-few (a .g) (a .codes .now) (a .tail .now) t (p .0) (p .1 .0) (p .1 .1 .1 .1 .0) m (q .ensures),
-      ),
-    )
+    ready (a .g) (a .codes .now) (a .tail .now) (q .last .1 .1 .0) (p .0) (p .1 .0) (p .1 .1 .1 .1 .0) (q .kept .1 .1 .0) (q .ensures)
 
 cast-t16 : tie.Need-cast-t16
 cast-t16 c = search needs
