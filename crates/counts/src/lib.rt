@@ -5,21 +5,21 @@ use grid::Answer;
 use grid::Grid;
 ghost use mathlib.Core.Path.{_≡_};
 ghost use mathlib.Core.Bool.{cond};
-ghost use Prim.Native.Nat.{_*_, _<_, _≤_};
+ghost use Prim.Native.Nat.{_+_, _<_, _≤_};
 ghost use lib.Dec.{eqb};
-ghost use lib.ListN.{length, take};
+ghost use lib.ListN.{length};
 ghost use Rattle.grid.specs.Sheet.{size};
 ghost use Rattle.grid.specs.Routes.{counts as counts', firstEndless};
 ghost use Rattle.grid.specs.Promises.{CountsPromise};
 ghost use Rattle.route_laws.specs.Receivers.{AllCodes};
 ghost use Rattle.checks.specs.Sizes.{Fits};
 
-// The counts, if every route ends, by way of the lent tail; the result is the first cell whose route does not, or rows * cols.
-fn counts_in(g: Grid, codes: &[u8], counts: &mut [u32], tail: &mut [u32]) -> usize
+// The counts, if every route ends, in the lent tail; the result is the first cell whose route does not, or rows * cols.
+fn counts_into(g: Grid, codes: &[u8], counts: &mut [u32], tail: &mut [u32]) -> usize
     requires { ⌜ Fits g ⌝ }
     requires { ⌜ length (now codes) ≡ size g ⌝ }
     requires { ⌜ length (now counts) ≡ size g ⌝ }
-    requires { ⌜ 2 * size g ≤ length (now tail) ⌝ }
+    requires { ⌜ size g + size g ≤ length (now tail) ⌝ }
     requires { ⌜ AllCodes (now codes) ⌝ }
     ensures { λ r. ⌜ r ≡ firstEndless g (now (codes .entry)) ⌝ }
     ensures { λ r. ⌜ now (counts .exit) ≡ cond (eqb r (size g)) (counts' g (now (codes .entry))) (now (counts .entry)) ⌝ }
@@ -27,21 +27,6 @@ fn counts_in(g: Grid, codes: &[u8], counts: &mut [u32], tail: &mut [u32]) -> usi
     let n = g.rows * g.cols;
     receivers::receivers_from(g, codes, tail);
     counting::counts_of(n, tail, counts)
-}
-
-// The same, by way of the second half of the work buffer; the first half stays as it was lent.
-fn counts_into(g: Grid, codes: &[u8], counts: &mut [u32], work: &mut [u32]) -> usize
-    requires { ⌜ Fits g ⌝ }
-    requires { ⌜ length (now codes) ≡ size g ⌝ }
-    requires { ⌜ length (now counts) ≡ size g ⌝ }
-    requires { ⌜ 4 * size g ≤ length (now work) ⌝ }
-    requires { ⌜ AllCodes (now codes) ⌝ }
-    ensures { λ r. ⌜ r ≡ firstEndless g (now (codes .entry)) ⌝ }
-    ensures { λ r. ⌜ now (counts .exit) ≡ cond (eqb r (size g)) (counts' g (now (codes .entry))) (now (counts .entry)) ⌝ }
-    ensures { λ r. ⌜ take (2 * size g) (now (work .exit)) ≡ take (2 * size g) (now (work .entry)) ⌝ }
-{
-    let half = work.len() / 2;
-    counts_in(g, codes, counts, &mut work[half..])
 }
 
 // Codes to counts.
@@ -63,7 +48,8 @@ pub fn counts(g: Grid, codes: &[u8], counts: &mut [u32], work: &mut [u32]) -> An
             place: bad as u32,
         };
     }
-    let first = counts_into(g, codes, counts, work);
+    let half = room / 2;
+    let first = counts_into(g, codes, counts, &mut work[half..]);
     if first < given {
         return Answer {
             number: 12,

@@ -3,10 +3,10 @@
 use mathlib.Core.Path.{_≡_, sym, _∙_, ap, subst}
 use mathlib.Core.Bool.{cond}
 use mathlib.Core.List.{List}
-use Prim.Native.Nat.{ℕ, _+_, _-_, _*_, _/_, _≤_}
+use Prim.Native.Nat.{ℕ, _-_, _/_, _≤_}
 use native.Mathlib.Omega.{arith}
 use lib.Dec.{eqb}
-use lib.ListN.{length, take, drop, length-take, length-drop}
+use lib.ListN.{length, take, drop}
 use lib.IntN.{ℤ}
 use borrow.Author.Tests.{eq-eqb}
 use Rattle.grid.specs.declared.Grid.{Grid}
@@ -18,13 +18,10 @@ use Rattle.grid.specs.Routes.{firstEndless}
 use Rattle.grid_laws.proofs.Tests.{cond-true}
 use Rattle.grid_laws.proofs.Cells.{InRange}
 use Rattle.route_laws.specs.Receivers.{AllCodes}
+use Rattle.checks.proofs.Room.{half-room}
 use Rattle.checks.proofs.Questions.{stranded-≤}
 use Rattle.guarantee_laws.proofs.OneCall.{all-levelled, codes-length, all-codes, all-end}
 use Rattle.drainage.specs.Results.{Measured, Routable}
-
--- the second half of a work buffer has room for two numbers a cell
-half-room : (n : ℕ) (t : List ℕ) → 4 * n ≤ length t → n + n ≤ length (take (length t - length t / 2) (drop (length t / 2) t))
-half-room n t h = simp (length-take, length-drop) (omega arith)
 
 module _ (g : Grid) (e f₀ f₁ : List ℤ) (k₀ k₁ : List ℕ) (f k a l w s r : ℕ) (M : Measured g f k a l w) (cells : length e ≡ size g)
     (range : InRange e) (stranded : s ≡ firstStranded g e) (none : f ≤ s) (written : f₁ ≡ cond (eqb s (size g)) (filled g e) f₀)

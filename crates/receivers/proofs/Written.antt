@@ -1,5 +1,5 @@
 -- The list of receivers while it is written, place by place; rows and columns along the numbering.
-use mathlib.Core.Path.{_≡_, refl, sym, _∙_, ap, subst}
+use mathlib.Core.Path.{_≡_, refl, sym, _∙_, ap}
 use mathlib.Core.List.{List, _++_}
 use Prim.Native.Nat.{ℕ, suc, _+_, _*_, _/_, _%_, _≤_, _<_}
 use native.Mathlib.Nat.{div-add-mod', suc-mul}
@@ -38,17 +38,17 @@ module _ (g : Grid) (codes t₀ : List ℕ) where
   pub written-none : WrittenTo g codes 0 t₀ t₀
   written-none = record { same-length = refl; written = λ c h. let z : ⊥ = omega arith in absurd z; after = λ k h. refl }
 
-  pub written-more : (i : ℕ) (t t′ : List ℕ) → WrittenTo g codes i t₀ t → i < length t₀ → t′ ≡ set t i (receiverMark g codes i) →
-      WrittenTo g codes (i + 1) t₀ t′
-  written-more i t t′ W l e = subst (WrittenTo g codes (i + 1) t₀) (sym e) (
+  pub written-more : (i v : ℕ) (t : List ℕ) → WrittenTo g codes i t₀ t → i < length t₀ → v ≡ receiverMark g codes i →
+      WrittenTo g codes (i + 1) t₀ (set t i v)
+  written-more i v t W l e =
       record {
-        same-length = length-set t i (receiverMark g codes i) ∙ W .same-length;
+        same-length = length-set t i v ∙ W .same-length;
         written =
-            below-more (λ c. getD (set t i (receiverMark g codes i)) c 0 ≡ receiverMark g codes c) i
-            (λ c h. getD-set-other t i c (receiverMark g codes i) 0 (λ q. let z : ⊥ = omega arith in z) ∙ W .written c h)
-            (getD-set-same t i (receiverMark g codes i) 0 (let s = W .same-length in omega arith));
-        after = λ k h. getD-set-other t i k (receiverMark g codes i) 0 (λ q. let z : ⊥ = omega arith in z) ∙ W .after k (omega arith);
-      })
+            below-more (λ c. getD (set t i v) c 0 ≡ receiverMark g codes c) i
+            (λ c h. getD-set-other t i c v 0 (λ q. let z : ⊥ = omega arith in z) ∙ W .written c h)
+            (getD-set-same t i v 0 (let s = W .same-length in omega arith) ∙ e);
+        after = λ k h. getD-set-other t i k v 0 (λ q. let z : ⊥ = omega arith in z) ∙ W .after k (omega arith);
+      }
 
 -- ---- all places
 pub written-front : (g : Grid) (codes t₀ t : List ℕ) → size g ≤ length t₀ → WrittenTo g codes (size g) t₀ t →

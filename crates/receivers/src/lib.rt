@@ -8,7 +8,7 @@ use grid::Grid;
 ghost use mathlib.Core.Path.{_≡_};
 ghost use mathlib.Core.List.{_++_};
 ghost use Prim.Native.Nat.{_+_, _*_, _/_, _%_, _<_, _≤_, _^_};
-ghost use lib.ListN.{length, drop, set};
+ghost use lib.ListN.{length, drop};
 ghost use Rattle.grid.specs.Sheet.{size, positionOf, neighbour};
 ghost use Rattle.grid.specs.Routes.{firstBadCode};
 ghost use Rattle.route_laws.specs.Receivers.{receiverMark, receivers, AllCodes};
@@ -114,29 +114,6 @@ fn mark(g: Grid, table: &[usize; 256], codes: &[u8], cell: usize, row: usize, co
     next
 }
 
-// Writes the mark of one cell.
-fn write_mark(
-    g: Grid,
-    table: &[usize; 256],
-    codes: &[u8],
-    tail: &mut [u32],
-    cell: usize,
-    row: usize,
-    col: usize,
-)
-    requires { ⌜ size g < 2 ^ 24 ⌝ }
-    requires { ⌜ length (now codes) ≡ size g ⌝ }
-    requires { ⌜ AllCodes (now codes) ⌝ }
-    requires { ⌜ cell < size g ⌝ }
-    requires { ⌜ row ≡ cell / g .cols ⌝ }
-    requires { ⌜ col ≡ cell % g .cols ⌝ }
-    requires { ⌜ ReachTable (g .cols) (now table) ⌝ }
-    requires { ⌜ size g ≤ length (now tail) ⌝ }
-    ensures { λ _. ⌜ now (tail .exit) ≡ set (now (tail .entry)) cell (receiverMark g (now (codes .entry)) cell) ⌝ }
-{
-    tail[cell] = mark(g, table, codes, cell, row, col) as u32;
-}
-
 // The row of the cell after one that stands in row `row` and column `col`.
 fn row_after(cols: usize, cell: usize, row: usize, col: usize) -> usize
     requires { ⌜ cell < 2 ^ 24 ⌝ }
@@ -179,7 +156,7 @@ fn write_marks(g: Grid, table: &[usize; 256], codes: &[u8], tail: &mut [u32])
     let mut row = 0;
     let mut col = 0;
     while cell < n {
-        write_mark(g, table, codes, tail, cell, row, col);
+        tail[cell] = mark(g, table, codes, cell, row, col) as u32;
         row = row_after(cols, cell, row, col);
         col = col_after(cols, cell, col);
         cell += 1;

@@ -1,10 +1,9 @@
 -- From the answers to the questions to the promise of the call: s₀ is the result list at entry, w₀ the work buffer.
 use mathlib.Core.Path.{_≡_, refl, sym, _∙_, ap, subst}
 use mathlib.Core.List.{List, [], _∷_}
-use Prim.Native.Nat.{ℕ, _-_, _*_, _/_, _≤_, _<_}
+use Prim.Native.Nat.{ℕ, _*_, _≤_, _<_}
 use native.Mathlib.Omega.{arith}
-use lib.ListN.{length, take, drop, length-drop}
-use lib.Seq.{length-take-le}
+use lib.ListN.{length}
 use Rattle.grid.specs.declared.Grid.{Grid}
 use Rattle.grid.specs.declared.Answer.{Answer}
 use Rattle.grid.specs.declared.Counted.{Counted}
@@ -26,13 +25,6 @@ pub record Sizes (g : Grid) (codes counts s₀ w₀ : List ℕ) : Type 0 where
   pub counts-long : length counts ≡ size g
   pub result-long : length s₀ ≡ size g
   pub room : 4 * size g ≤ length w₀
-
--- the second half of the work buffer is long enough
-pub half-room : (n : ℕ) (w : List ℕ) → 4 * n ≤ length w → 2 * n ≤ length (take (length w - length w / 2) (drop (length w / 2) w))
-half-room n w h =
-    let d = length-drop (length w / 2) w in
-    let e = length-take-le (length w - length w / 2) (drop (length w / 2) w) (omega arith) in
-    omega arith
 
 module _ (g : Grid) (codes counts : List ℕ) (threshold : ℕ) (s₀ w₀ : List ℕ) (r : Answer)
     (asked : r ≡ askSheets g (length codes ∷ length counts ∷ []) (length s₀ ∷ length s₀ ∷ length s₀ ∷ length s₀ ∷ [])

@@ -1,9 +1,12 @@
--- Each return is one answer of the questions, in their order, and `Promise` has the promise for it.
+-- Each return is one answer of the questions, in their order, and `Promise` has the promise for it. The second half of the work buffer is
+-- lent on, so that what lies before it is as it was.
 use mathlib.Core.Path.{refl}
 use native.Mathlib.Omega.{arith}
+use Rattle.grid.specs.Sheet.{size}
 use Rattle.receivers.proofs.Codes.{all-codes}
 use Rattle.checks.proofs.FromCodes.{refused-promise, sizes, bad-promise, none-bad, endless-promise, made-promise}
-use Rattle.counts.proofs.Promise.{promise}
+use Rattle.checks.proofs.Room.{half-room}
+use Rattle.counts.proofs.Promise.{promise, given-back, first-half-kept}
 use borrow.Author.Needs.{needs}
 use Rattle.counts.proofs.counts.Statement.{statement}
 use Rattle.counts.proofs.counts.Tie as tie
@@ -23,8 +26,8 @@ first-bad-code-requires c κs =
     let k = c .before .before .check in
     sizes (a .g) (a .codes .now) (a .counts .now) (a .work .now) (k .result) (k .ensures) (c .if1 .left) .codes-long
 
-cast-t12 : tie.Need-cast-t12
-cast-t12 c =
+cast-t13 : tie.Need-cast-t13
+cast-t13 c =
     let a = c .before .before .before .before .before .before .before .before .args in
     let k = c .before .before .before .before .check in
     let s = sizes (a .g) (a .codes .now) (a .counts .now) (a .work .now) (k .result) (k .ensures) (c .before .before .if1 .left) in
@@ -41,24 +44,45 @@ returns-2 c =
     promise (bad-promise (a .g) (a .codes .now) (a .counts .now) (a .work .now) (k .result) (k .ensures) (c .before .before .if1 .left)
     (b .result) (b .ensures) (c .if2 .taken)) refl
 
+mul-counts-into : tie.Need-mul-counts-into
+mul-counts-into c = search needs
+
+sub-counts-into : tie.Need-sub-counts-into
+sub-counts-into c = search needs
+
+part-counts-into-start : tie.Need-part-counts-into-start
+part-counts-into-start c = search needs
+
+part-counts-into-end : tie.Need-part-counts-into-end
+part-counts-into-end c = search needs
+
 counts-into-requires : tie.Need-counts-into-requires
 counts-into-requires c κs =
-    let a = c .before .before .before .before .before .before .before .before .before .before .args in
-    let k = c .before .before .before .before .before .before .check in
-    let b = c .before .before .before .first-bad-code in
-    let s = sizes (a .g) (a .codes .now) (a .counts .now) (a .work .now) (k .result) (k .ensures)
-    (c .before .before .before .before .if1 .left) in
-    let e = none-bad (a .g) (a .codes .now) (a .counts .now) (a .work .now) (k .result) (k .ensures)
-    (c .before .before .before .before .if1 .left) (b .result) (b .ensures) (c .before .before .if2 .left) in
-    (s .fits, (s .codes-long, (s .result-long, (s .room, all-codes (a .g) (a .codes .now) (s .codes-long) e))))
+    let d = c .before .before in
+    let m = d .before .before in
+    let a = m .before .before .before .before .before .before .args in
+    let k = m .before .before .check in
+    let b = d .before .first-bad-code in
+    let s = sizes (a .g) (a .codes .now) (a .counts .now) (a .work .now) (k .result) (k .ensures) (m .if1 .left) in
+    let e = none-bad (a .g) (a .codes .now) (a .counts .now) (a .work .now) (k .result) (k .ensures) (m .if1 .left) (b .result)
+    (b .ensures) (d .if2 .left) in (
+      s .fits,
+      (
+        s .codes-long,
+        (
+          s .result-long,
+          (half-room (size (a .g)) (a .work .now) (s .room), all-codes (a .g) (a .codes .now) (s .codes-long) e),
+        ),
+      ),
+    )
 
-cast-t17 : tie.Need-cast-t17
-cast-t17 c =
-    let b = c .before .before .before .before .before .before .before .before .before .before in
-    let a = b .before .before .before .before .before .before .args in
-    let k = b .before .before .check in
-    let s = sizes (a .g) (a .codes .now) (a .counts .now) (a .work .now) (k .result) (k .ensures) (b .if1 .left) in
-    let m = s .codes-long in
+cast-t21 : tie.Need-cast-t21
+cast-t21 c =
+    let m = c .before .before .before .before .before .before .before .before .before .before in
+    let a = m .before .before .before .before .before .before .args in
+    let k = m .before .before .check in
+    let s = sizes (a .g) (a .codes .now) (a .counts .now) (a .work .now) (k .result) (k .ensures) (m .if1 .left) in
+    let l = s .codes-long in
     let f = s .fits .cells in
     let h = c .if3 .taken in
     omega arith
@@ -71,17 +95,21 @@ same-length-2 c = search needs
 
 returns-3 : tie.Need-returns-3
 returns-3 c =
-    let d = c .before .before .before .before .before in
-    let m = d .before .before .before .before .before in
+    let z = c .before .before .before .before .before .counts-into in
+    let d = c .before .before .before .before .before .before .before .before in
+    let m = d .before .before in
     let a = m .before .before .before .before .before .before .args in
     let k = m .before .before .check in
-    let b = d .before .before .before .before .first-bad-code in
-    let z = d .counts-into in
-    let e = none-bad (a .g) (a .codes .now) (a .counts .now) (a .work .now) (k .result) (k .ensures) (m .if1 .left) (b .result)
-    (b .ensures) (d .before .before .before .if2 .left) in
-    promise (endless-promise (a .g) (a .codes .now) (a .counts .now) (a .work .now) (k .result) (k .ensures) (m .if1 .left) e (z .result)
-    (z .ensures .0)
-    (z .last .1 .1 .0) (z .last .1 .1 .1 .0) (z .ensures .1 .0) (z .kept .1 .1 .1 .0) (c .if3 .taken)) (z .ensures .1 .1)
+    let b = d .before .first-bad-code in
+    let w = a .work .now in
+    let t = z .last .1 .1 .1 .0 in
+    let e = none-bad (a .g) (a .codes .now) (a .counts .now) w (k .result) (k .ensures) (m .if1 .left) (b .result) (b .ensures)
+    (d .if2 .left) in
+    let h = sizes (a .g) (a .codes .now) (a .counts .now) w (k .result) (k .ensures) (m .if1 .left) .room in
+    promise
+    (endless-promise (a .g) (a .codes .now) (a .counts .now) w (k .result) (k .ensures) (m .if1 .left) e (z .result) (z .ensures .0)
+    (z .last .1 .1 .0) (given-back w t) (z .ensures .1) (same-length-2 c) (c .if3 .taken))
+    (first-half-kept (a .g) w t h)
 
 same-length-3 : tie.Need-same-length-3
 same-length-3 c = search needs
@@ -91,17 +119,21 @@ same-length-4 c = search needs
 
 returns-4 : tie.Need-returns-4
 returns-4 c =
-    let d = c .before .before .before .before .before in
-    let m = d .before .before .before .before .before in
+    let z = c .before .before .before .before .before .counts-into in
+    let d = c .before .before .before .before .before .before .before .before in
+    let m = d .before .before in
     let a = m .before .before .before .before .before .before .args in
     let k = m .before .before .check in
-    let b = d .before .before .before .before .first-bad-code in
-    let z = d .counts-into in
-    let e = none-bad (a .g) (a .codes .now) (a .counts .now) (a .work .now) (k .result) (k .ensures) (m .if1 .left) (b .result)
-    (b .ensures) (d .before .before .before .if2 .left) in
-    promise (made-promise (a .g) (a .codes .now) (a .counts .now) (a .work .now) (k .result) (k .ensures) (m .if1 .left) e (z .result)
-    (z .ensures .0)
-    (z .last .1 .1 .0) (z .last .1 .1 .1 .0) (z .ensures .1 .0) (z .kept .1 .1 .1 .0) (c .if3 .left)) (z .ensures .1 .1)
+    let b = d .before .first-bad-code in
+    let w = a .work .now in
+    let t = z .last .1 .1 .1 .0 in
+    let e = none-bad (a .g) (a .codes .now) (a .counts .now) w (k .result) (k .ensures) (m .if1 .left) (b .result) (b .ensures)
+    (d .if2 .left) in
+    let h = sizes (a .g) (a .codes .now) (a .counts .now) w (k .result) (k .ensures) (m .if1 .left) .room in
+    promise
+    (made-promise (a .g) (a .codes .now) (a .counts .now) w (k .result) (k .ensures) (m .if1 .left) e (z .result) (z .ensures .0)
+    (z .last .1 .1 .0) (given-back w t) (z .ensures .1) (same-length-4 c) (c .if3 .left))
+    (first-half-kept (a .g) w t h)
 
 pub counts-spec : {M : Type 1} → statement M
 counts-spec =
@@ -110,10 +142,14 @@ counts-spec =
     check-requires
     returns
     first-bad-code-requires
-    cast-t12
+    cast-t13
     returns-2
+    mul-counts-into
+    sub-counts-into
+    part-counts-into-start
+    part-counts-into-end
     counts-into-requires
-    cast-t17
+    cast-t21
     same-length
     same-length-2
     returns-3

@@ -1,33 +1,33 @@
--- The second half of the work buffer is long enough, and what lies before it is as it was.
-use Prim.Native.Nat.{_-_, _*_, _/_}
+-- The receivers stand at the front of the tail, and what is counted from them is said of the sheet.
 use native.Mathlib.Omega.{arith}
-use lib.ListN.{length}
-use borrow.Rule.Slice.PartMut.{mid-len}
+use lib.ListN.{drop}
 use denote.Ref.{now}
 use Rattle.grid.specs.Sheet.{size}
-use Rattle.counts.proofs.Promise.{front-kept}
+use Rattle.counting.proofs.Sheet.{ready-to-count, sheet-counts}
 use borrow.Author.Needs.{needs}
 use Rattle.counts.proofs.counts_into.Statement.{statement}
 use Rattle.counts.proofs.counts_into.Tie as tie
 
-mul-counts-in : tie.Need-mul-counts-in
-mul-counts-in c = search needs
+mul-n : tie.Need-mul-n
+mul-n c = search needs
 
-sub-counts-in : tie.Need-sub-counts-in
-sub-counts-in c = search needs
+receivers-from-requires : tie.Need-receivers-from-requires
+receivers-from-requires c κs =
+    let p = c .before .before .before .before .before .pre in
+    let f = p .0 .cells in
+    let h = p .1 .1 .1 .0 in
+    (omega arith, (p .0 .rows-low, (p .1 .0, (p .1 .1 .1 .1, omega arith))))
 
-part-counts-in-start : tie.Need-part-counts-in-start
-part-counts-in-start c = search needs
-
-part-counts-in-end : tie.Need-part-counts-in-end
-part-counts-in-end c = search needs
-
-counts-in-requires : tie.Need-counts-in-requires
-counts-in-requires c κs =
-    let s = c .before .before .before .before .before in
-    let m = mid-len (length (now (s .args .work)) / 2) (length (now (s .args .work))) (now (s .args .work)) (omega arith) in
+counts-of-requires : tie.Need-counts-of-requires
+counts-of-requires c κs =
+    let s = c .before .before .before .before .before .before .before .before .before .before in
+    let v = c .before .before .before .before .receivers-from in
+    let f = s .pre .0 .cells in
+    let k = v .kept .1 .1 .0 in
     let h = s .pre .1 .1 .1 .0 in
-    (s .pre .0, (s .pre .1 .0, (s .pre .1 .1 .0, (omega arith, s .pre .1 .1 .1 .1))))
+    let q = ready-to-count (s .args .g) (now (s .args .codes)) (drop (size (s .args .g)) (now (s .args .tail))) (v .last .1 .1 .0)
+    (s .pre .1 .0) (v .ensures) (omega arith) (omega arith) in
+    (q .0, (q .1 .0, (q .1 .1, s .pre .1 .1 .0)))
 
 same-length : tie.Need-same-length
 same-length c = search needs
@@ -37,26 +37,13 @@ same-length-2 c = search needs
 
 returns : tie.Need-returns
 returns c =
-    let s = c .before .before .before .before .before .before .before .before .before .before in
-    let v = c .before .before .before .before .counts-in in
-    let w = now (s .args .work) in
-    let h = s .pre .1 .1 .1 .0 in (
-      v .ensures .0,
-      (
-        v .ensures .1,
-        front-kept (2 * size (s .args .g)) (length w / 2) (length w - length w / 2) w (v .last .1 .1 .1 .0) (omega arith) (omega arith),
-      ),
-    )
+    let s = c .before .before .before .before .before .before .before .before .before .before .before .before .before .before .before in
+    let v = c .before .before .before .before .before .before .before .before .before .receivers-from in
+    let l = c .before .before .before .before .counts-of in
+    sheet-counts (s .args .g) (now (s .args .codes)) (drop (size (s .args .g)) (now (s .args .tail))) (v .last .1 .1 .0) (s .pre .1 .0)
+    (v .ensures) (l .last .1 .0) (now (s .args .counts)) (l .last .1 .1 .0) (l .result) (l .ensures)
 
 pub counts-into-spec : {M : Type 1} → statement M
 counts-into-spec =
     tie.close
-    (tie.spec
-    mul-counts-in
-    sub-counts-in
-    part-counts-in-start
-    part-counts-in-end
-    counts-in-requires
-    same-length
-    same-length-2
-    returns)
+    (tie.spec mul-n receivers-from-requires counts-of-requires same-length same-length-2 returns)

@@ -1,5 +1,5 @@
 -- The marks of the cells passed stand; row and column are those of the present cell.
-use Prim.Native.Nat.{ℕ, _+_, _-_, _/_, _%_, _≤_}
+use Prim.Native.Nat.{ℕ, _-_, _/_, _%_, _≤_}
 use mathlib.Core.Path.{_≡_, subst}
 use native.Mathlib.Omega.{arith}
 use borrow.Author.Needs.{needs}
@@ -31,50 +31,60 @@ loop-holds c =
       written-none (s .args .g) (now (s .args .codes)) (now (s .args .tail)),
     )
 
-write-mark-requires : tie.Need-write-mark-requires Inv-loop μ-loop
-write-mark-requires c κs =
-    let s = c .before .before .before .before .before .before in
-    let l = c .before .before .loop in
-    let e = l .inv .3 .same-length in (
-      s .pre .0,
-      (s .pre .1 .0, (s .pre .1 .1 .0, (c .before .loop-test .taken, (l .inv .1, (l .inv .2, (s .pre .1 .1 .1 .0, omega arith)))))),
-    )
+mark-requires : tie.Need-mark-requires Inv-loop μ-loop
+mark-requires c κs =
+    let s = c .before .before .before .before .before in
+    let l = c .before .loop in
+    (s .pre .0, (s .pre .1 .0, (s .pre .1 .1 .0, (c .loop-test .taken, (l .inv .1, (l .inv .2, s .pre .1 .1 .1 .0))))))
+
+cast-tail : tie.Need-cast-tail Inv-loop μ-loop
+cast-tail c = let m = c .mark .ensures .1 in let h = c .before .before .before .before .before .before .pre .0 in omega arith
+
+mul-tail : tie.Need-mul-tail Inv-loop μ-loop
+mul-tail c = let t = c .before .loop-test .taken in let h = c .before .before .before .before .before .before .pre .0 in omega arith
+
+slice-write-tail : tie.Need-slice-write-tail Inv-loop μ-loop
+slice-write-tail c =
+    let i = c .before in
+    let h = i .before .before .before .before .before .pre .1 .1 .1 .1 in
+    let e = i .before .loop .inv .3 .same-length in
+    let t = i .loop-test .taken in
+    omega arith
 
 row-after-requires : tie.Need-row-after-requires Inv-loop μ-loop
 row-after-requires c κs =
-    let s = c .before .before .before .before .before .before .before .before .before in
-    let l = c .before .before .before .before .before .loop in
-    let t = c .before .before .before .before .loop-test .taken in
+    let i = c .before in
+    let s = i .before .before .before .before .before in
+    let l = i .before .loop in
+    let t = i .loop-test .taken in
     (omega arith, (l .inv .1, (l .inv .2, rw (l .inv .2) (mod-lt (l .cell) (cols-positive (s .args .g) (l .cell) t)))))
 
 col-after-requires : tie.Need-col-after-requires Inv-loop μ-loop
 col-after-requires c κs =
-    let b = c .before .before .before .before .before .before in
-    let s = b .before .before .before .before in
-    let l = b .loop in
-    let t = c .before .before .before .before .before .loop-test .taken in
+    let i = c .before .before in
+    let s = i .before .before .before .before .before in
+    let l = i .before .loop in
+    let t = i .loop-test .taken in
     (omega arith, (l .inv .2, rw (l .inv .2) (mod-lt (l .cell) (cols-positive (s .args .g) (l .cell) t))))
 
 add-cell : tie.Need-add-cell Inv-loop μ-loop
-add-cell c =
-    let l = c .before .before .before .before .before .before .before .loop in
-    let t = c .before .before .before .before .before .before .loop-test .taken in
-    omega arith
+add-cell c = let i = c .before .before .before in let l = i .before .loop in let t = i .loop-test .taken in omega arith
 
 loop-less : tie.Need-loop-less Inv-loop μ-loop
-loop-less c = let t = c .before .before .before .before .before .before .loop-test .taken in omega arith
+loop-less c = let t = c .before .before .before .loop-test .taken in omega arith
 
 loop-again : tie.Need-loop-again Inv-loop μ-loop
 loop-again c =
-    let s = c .before .before .before .before .before .before .before .before .before .before .before in
-    let l = c .before .before .before .before .before .before .before .loop in
-    let t = c .before .before .before .before .before .before .loop-test .taken in
-    let w = c .before .before .before .before .write-mark in (
+    let i = c .before .before .before in
+    let s = i .before .before .before .before .before in
+    let l = i .before .loop in
+    let t = i .loop-test .taken in
+    let m = c .before .before .mark in (
       omega arith,
       c .before .row-after .ensures,
       c .col-after .ensures,
-      written-more (s .args .g) (now (s .args .codes)) (now (s .args .tail)) (l .cell) (l .tail) (w .last .1 .1 .1 .0) (l .inv .3)
-          (let h = s .pre .1 .1 .1 .1 in omega arith) (w .ensures),
+      written-more (s .args .g) (now (s .args .codes)) (now (s .args .tail)) (l .cell) (m .result) (l .tail) (l .inv .3)
+          (let h = s .pre .1 .1 .1 .1 in omega arith) (m .ensures .0),
     )
 
 same-length : tie.Need-same-length Inv-loop μ-loop
@@ -96,7 +106,10 @@ write-marks-spec =
     μ-loop
     mul-n
     loop-holds
-    write-mark-requires
+    mark-requires
+    cast-tail
+    mul-tail
+    slice-write-tail
     row-after-requires
     col-after-requires
     add-cell

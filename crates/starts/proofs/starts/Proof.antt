@@ -1,7 +1,9 @@
 -- Each return is one answer of the questions, in their order, and `Promise` has the promise for it.
 use native.Mathlib.Omega.{arith}
+use Rattle.grid.specs.Sheet.{size}
 use Rattle.receivers.proofs.Codes.{all-codes}
-use Rattle.starts.proofs.Promise.{half-room, refused-promise, sizes, bad-promise, none-bad, started-promise}
+use Rattle.checks.proofs.Room.{half-room}
+use Rattle.starts.proofs.Promise.{refused-promise, sizes, bad-promise, none-bad, started-promise}
 use borrow.Author.Needs.{needs}
 use Rattle.starts.proofs.starts.Statement.{statement}
 use Rattle.starts.proofs.starts.Tie as tie
@@ -71,7 +73,7 @@ starts-into-requires c κs =
           (
             s .result-long,
             (
-              half-room _ (a .work .now) (s .room),
+              let h = half-room (size (a .g)) (a .work .now) (s .room) in omega arith,
               all-codes (a .g) (a .codes .now) (s .codes-long) e,
             ),
           ),
