@@ -5,7 +5,7 @@ use grid::Answer;
 use grid::Grid;
 ghost use mathlib.Core.Path.{_≡_};
 ghost use mathlib.Core.Bool.{cond};
-ghost use Prim.Native.Nat.{_*_, _<_, _≤_};
+ghost use Prim.Native.Nat.{_<_, _≤_};
 ghost use lib.Dec.{eqb};
 ghost use lib.ListN.{length};
 ghost use Rattle.grid.specs.Sheet.{size};
@@ -14,8 +14,8 @@ ghost use Rattle.grid.specs.Promises.{LabelsPromise};
 ghost use Rattle.route_laws.specs.Receivers.{AllCodes};
 ghost use Rattle.checks.specs.Sizes.{Fits};
 
-// The labels, if every route ends, by way of the lent tail; the result is the first cell whose route does not, or rows * cols.
-fn labels_in(g: Grid, codes: &[u8], labels: &mut [u32], tail: &mut [u32]) -> usize
+// The labels, if every route ends, in the lent tail; the result is the first cell whose route does not, or rows * cols.
+fn labels_into(g: Grid, codes: &[u8], labels: &mut [u32], tail: &mut [u32]) -> usize
     requires { ⌜ Fits g ⌝ }
     requires { ⌜ length (now codes) ≡ size g ⌝ }
     requires { ⌜ length (now labels) ≡ size g ⌝ }
@@ -27,20 +27,6 @@ fn labels_in(g: Grid, codes: &[u8], labels: &mut [u32], tail: &mut [u32]) -> usi
     let n = g.rows * g.cols;
     receivers::receivers_from(g, codes, tail);
     labelling::labels_of(n, tail, labels)
-}
-
-// The same, by way of the second half of the work buffer.
-pub fn labels_into(g: Grid, codes: &[u8], labels: &mut [u32], work: &mut [u32]) -> usize
-    requires { ⌜ Fits g ⌝ }
-    requires { ⌜ length (now codes) ≡ size g ⌝ }
-    requires { ⌜ length (now labels) ≡ size g ⌝ }
-    requires { ⌜ 4 * size g ≤ length (now work) ⌝ }
-    requires { ⌜ AllCodes (now codes) ⌝ }
-    ensures { λ r. ⌜ r ≡ firstEndless g (now (codes .entry)) ⌝ }
-    ensures { λ r. ⌜ now (labels .exit) ≡ cond (eqb r (size g)) (labels' g (now (codes .entry))) (now (labels .entry)) ⌝ }
-{
-    let half = work.len() / 2;
-    labels_in(g, codes, labels, &mut work[half..])
 }
 
 // Codes to labels.
@@ -62,7 +48,8 @@ pub fn labels(g: Grid, codes: &[u8], labels: &mut [u32], work: &mut [u32]) -> An
             place: bad as u32,
         };
     }
-    let first = labels_into(g, codes, labels, work);
+    let half = room / 2;
+    let first = labels_into(g, codes, labels, &mut work[half..]);
     if first < given {
         return Answer {
             number: 12,

@@ -1,31 +1,27 @@
--- The second half of the work buffer is long enough.
-use Prim.Native.Nat.{_/_}
+-- The receivers stand at the front of the tail, and what is said of them is said of the sheet.
 use native.Mathlib.Omega.{arith}
-use lib.ListN.{length}
-use borrow.Rule.Slice.PartMut.{mid-len}
+use lib.ListN.{drop}
 use denote.Ref.{now}
+use Rattle.grid.specs.Sheet.{size}
+use Rattle.labelling.proofs.Sheet.{marks, sheet-labels}
 use borrow.Author.Needs.{needs}
 use Rattle.labels.proofs.labels_into.Statement.{statement}
 use Rattle.labels.proofs.labels_into.Tie as tie
 
-mul-labels-in : tie.Need-mul-labels-in
-mul-labels-in c = search needs
+mul-n : tie.Need-mul-n
+mul-n c = search needs
 
-sub-labels-in : tie.Need-sub-labels-in
-sub-labels-in c = search needs
+receivers-from-requires : tie.Need-receivers-from-requires
+receivers-from-requires c κs = search needs
 
-part-labels-in-start : tie.Need-part-labels-in-start
-part-labels-in-start c = search needs
-
-part-labels-in-end : tie.Need-part-labels-in-end
-part-labels-in-end c = search needs
-
-labels-in-requires : tie.Need-labels-in-requires
-labels-in-requires c κs =
-    let s = c .before .before .before .before .before in
-    let m = mid-len (length (now (s .args .work)) / 2) (length (now (s .args .work))) (now (s .args .work)) (omega arith) in
-    let h = s .pre .1 .1 .1 .0 in
-    (s .pre .0, (s .pre .1 .0, (s .pre .1 .1 .0, (omega arith, s .pre .1 .1 .1 .1))))
+labels-of-requires : tie.Need-labels-of-requires
+labels-of-requires c κs =
+    let s = c .before .before .before .before .before .before .before .before .before .before in
+    let v = c .before .before .before .before .receivers-from in
+    let f = s .pre .0 .cells in
+    let q = marks (s .args .g) (now (s .args .codes)) (drop (size (s .args .g)) (now (s .args .tail))) (v .last .1 .1 .0) (s .pre .1 .0)
+    (v .ensures) in
+    (omega arith, (let k = v .kept .1 .1 .0 in let h = s .pre .1 .1 .1 .0 in omega arith, (q, s .pre .1 .1 .0)))
 
 same-length : tie.Need-same-length
 same-length c = search needs
@@ -34,17 +30,14 @@ same-length-2 : tie.Need-same-length-2
 same-length-2 c = search needs
 
 returns : tie.Need-returns
-returns c = search needs
+returns c =
+    let s = c .before .before .before .before .before .before .before .before .before .before .before .before .before .before .before in
+    let v = c .before .before .before .before .before .before .before .before .before .receivers-from in
+    let l = c .before .before .before .before .labels-of in
+    sheet-labels (s .args .g) (now (s .args .codes)) (drop (size (s .args .g)) (now (s .args .tail))) (v .last .1 .1 .0) (s .pre .1 .0)
+    (v .ensures) (now (s .args .labels)) (l .last .1 .1 .0) (l .result) (l .ensures)
 
 pub labels-into-spec : {M : Type 1} → statement M
 labels-into-spec =
     tie.close
-    (tie.spec
-    mul-labels-in
-    sub-labels-in
-    part-labels-in-start
-    part-labels-in-end
-    labels-in-requires
-    same-length
-    same-length-2
-    returns)
+    (tie.spec mul-n receivers-from-requires labels-of-requires same-length same-length-2 returns)
