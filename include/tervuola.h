@@ -32,7 +32,7 @@
  * refused.
  *
  * A refusal (number above 0) leaves every result buffer as it was; a number up to 9, and 17, leaves the work buffer as it was
- * too. Otherwise the work buffer's contents are free afterwards, but for the first half of that of tervuola_counts.
+ * too. Otherwise the work buffer's contents are free afterwards; tervuola_counts says more of its own.
  *
  * The calls allocate nothing, keep no state, are reentrant and thread-safe, and use at most 512 KiB of stack.
  */
@@ -198,7 +198,8 @@ tervuola_answer tervuola_directions(uint32_t rows, uint32_t cols, uint32_t sides
 /*
  * Flow accumulation: the number of other cells whose routes pass through the cell, from any sheet of codes.
  * codes: rows * cols. counts: rows * cols, the result. work: at least 4 * rows * cols; its first 2 * rows * cols elements come
- * back as lent, whatever the answer, and are not touched: their pages need not be in memory.
+ * back as lent, whatever the answer. The call does not touch them either (that is tested, and no part of the promise), so that it
+ * brings none of their pages into memory.
  * Numbers: 5 6 7 8 9 11 12. Promise: CountsPromise.
  */
 tervuola_answer tervuola_counts(uint32_t rows, uint32_t cols,

@@ -26,16 +26,16 @@ module _ (n : ℕ) (t : List ℕ) where
   pub copied-none : (d : List ℕ) → CopiedTo n t 0 d d
   copied-none d = record { same-length = refl; copied = λ c l. let z : ⊥ = omega arith in absurd z }
 
-  pub copied-more : (i : ℕ) (d₀ d : List ℕ) → CopiedTo n t i d₀ d → i < length d₀ →
-      CopiedTo n t (i + 1) d₀ (set d i (getD t (n + i) 0 % 16777216))
+  pub copied-more : (i v : ℕ) (d₀ d : List ℕ) → CopiedTo n t i d₀ d → i < length d₀ → v ≡ getD t (n + i) 0 % 16777216 →
+      CopiedTo n t (i + 1) d₀ (set d i v)
   unfolding tally
-  copied-more i d₀ d C h =
+  copied-more i v d₀ d C h e =
       record {
-        same-length = length-set d i (getD t (n + i) 0 % 16777216) ∙ C .same-length;
+        same-length = length-set d i v ∙ C .same-length;
         copied =
-            below-more (λ c. getD (set d i (getD t (n + i) 0 % 16777216)) c 0 ≡ tally (wordAt n t c)) i
-            (λ c l. getD-set-other d i c (getD t (n + i) 0 % 16777216) 0 (λ q. let z : ⊥ = omega arith in absurd z) ∙ C .copied c l)
-            (getD-set-same d i (getD t (n + i) 0 % 16777216) 0 (let q = C .same-length in omega arith));
+            below-more (λ c. getD (set d i v) c 0 ≡ tally (wordAt n t c)) i
+            (λ c l. getD-set-other d i c v 0 (λ q. let z : ⊥ = omega arith in absurd z) ∙ C .copied c l)
+            (getD-set-same d i v 0 (let q = C .same-length in omega arith) ∙ e);
       }
 
   pub copied-all : (i : ℕ) (d₀ d : List ℕ) → length d₀ ≡ n → n ≤ i → CopiedTo n t i d₀ d → d ≡ table n (λ c. tally (wordAt n t c))

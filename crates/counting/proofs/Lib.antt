@@ -1,3 +1,3 @@
--- Two copies, by the places copied so far, and what they leave; the tail of a sheet of codes.
+-- The counts while they are copied out of their words; the tail of a sheet of codes.
 pub mod Copies
 pub mod Sheet

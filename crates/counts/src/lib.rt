@@ -1,6 +1,7 @@
 // The call `counts` of document 01: from a sheet of codes, of each cell "the number of other cells whose routes contain it". Questions 5
-// to 9, then 11 and 12. The receivers of the codes go into the second half of the work buffer, where one pass down the routes counts (crates
-// `receivers`, `accumulation`); the first half stays as it was lent (request 4). The result is written when the last question is answered.
+// to 9, then 11 and 12. The receivers of the codes go into the second half of the work buffer, where one pass down the routes counts
+// (crates `receivers`, `accumulation`); the first half stays as it was lent (request 4). The result is written when the last question is
+// answered.
 use grid::Answer;
 use grid::Grid;
 ghost use mathlib.Core.Path.{_≡_};
@@ -14,7 +15,7 @@ ghost use Rattle.grid.specs.Promises.{CountsPromise};
 ghost use Rattle.route_laws.specs.Receivers.{AllCodes};
 ghost use Rattle.checks.specs.Sizes.{Fits};
 
-// The counts, if every route ends, in the lent tail; the result is the first cell whose route does not, or rows * cols.
+// The counts, if every route ends, by way of the lent tail; the result is the first cell whose route does not, or rows * cols.
 fn counts_into(g: Grid, codes: &[u8], counts: &mut [u32], tail: &mut [u32]) -> usize
     requires { ⌜ Fits g ⌝ }
     requires { ⌜ length (now codes) ≡ size g ⌝ }

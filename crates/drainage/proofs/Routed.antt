@@ -13,10 +13,11 @@ use Rattle.grid.specs.Sheet.{size}
 use Rattle.grid.specs.Routes.{counts, labels, firstEndless}
 use Rattle.grid_laws.proofs.Tests.{cond-true}
 use Rattle.route_laws.specs.Receivers.{receivers, Marks}
+use Rattle.route_laws.proofs.Receivers.{receivers-front, front-marks}
 use Rattle.count_laws.specs.Passing.{FewDonors}
 use Rattle.accumulation.specs.Tail.{markAt, Roomy}
 use Rattle.counting.specs.Copied.{CountsOf}
-use Rattle.counting.proofs.Sheet.{tail-marks, front, ready-to-count, sheet-counts}
+use Rattle.counting.proofs.Sheet.{ready-to-count, sheet-counts}
 use Rattle.labelling.specs.Labelled.{LabelsOf}
 use Rattle.labelling.proofs.Sheet.{sheet-labels}
 use Rattle.drainage.specs.Results.{Routable}
@@ -41,13 +42,13 @@ module _ (g : Grid) (codes : List ℕ) (a l : ℕ) (t₀ t₁ : List ℕ) (R : R
 
     -- the counts leave the receivers as they are
     still : take (size g) t₂ ≡ receivers g codes
-    still = C .same-marks ended ∙ front g codes (drop (size g) t₀) t₁ (R .long) written
+    still = C .same-marks ended ∙ receivers-front g codes (drop (size g) t₀) t₁ (R .long) written
 
     pub ready-to-label : length t₂ ≡ length t₁ → (size g < 16777216) × ((size g ≤ length t₂) × Marks (size g) (take (size g) t₂))
     ready-to-label q =
         let room = R .room in
         let small = R .fits .cells in
-        (omega arith, (omega arith, tail-marks g codes (R .long) t₂ still))
+        (omega arith, (omega arith, front-marks g codes (R .long) t₂ still))
 
     module _ (l₀ l₁ : List ℕ) (s : ℕ) (L : LabelsOf (size g) t₂ l₀ l₁ s) where
       pub labels-right : l₁ ≡ labels g codes

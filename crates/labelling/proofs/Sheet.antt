@@ -1,11 +1,10 @@
 -- What is said of the receivers of a sheet of codes, said of the sheet: a buffer t₁ begins with them.
-use mathlib.Core.Path.{_≡_, sym, _∙_, ap, subst}
+use mathlib.Core.Path.{_≡_, sym, _∙_, ap}
 use mathlib.Core.Bool.{cond}
 use mathlib.Core.List.{List, _++_}
 use Prim.Native.Nat.{ℕ}
 use lib.Dec.{eqb}
 use lib.ListN.{length, take}
-use lib.Seq.{take-at}
 use Rattle.grid.specs.declared.Grid.{Grid}
 use Rattle.grid.specs.Below.{table}
 use Rattle.grid.specs.Sheet.{size}
@@ -14,20 +13,19 @@ use Rattle.grid_laws.proofs.Below.{table-ext}
 use Rattle.route_laws.specs.Ends.{lastMark, firstUnending}
 use Rattle.route_laws.specs.Receivers.{receivers, nextIn, liveIn, Marks}
 use Rattle.route_laws.specs.Walking.{liveAt, nextAt}
-use Rattle.route_laws.proofs.Receivers.{receivers-marks, length-receivers, label-is, first-endless-is}
+use Rattle.route_laws.proofs.Receivers.{label-is, receivers-front, front-marks, front-first}
 use Rattle.labelling.specs.Labelled.{LabelsOf}
 
 module _ (g : Grid) (codes rest t₁ : List ℕ) (long : length codes ≡ size g) (e : t₁ ≡ receivers g codes ++ rest) where
-  pub front : take (size g) t₁ ≡ receivers g codes
-  front = ap (take (size g)) e ∙ take-at (receivers g codes) rest (size g) (length-receivers g codes long)
+  front : take (size g) t₁ ≡ receivers g codes
+  front = receivers-front g codes rest t₁ long e
 
   pub marks : Marks (size g) (take (size g) t₁)
-  marks = subst (Marks (size g)) (sym front) (receivers-marks g codes long)
+  marks = front-marks g codes long t₁ front
 
   -- question 12's cell
   pub first-endless : firstUnending (liveAt (size g) t₁) (nextAt (size g) t₁) (size g) ≡ firstEndless g codes
-  first-endless =
-      ap (λ (l : List ℕ). firstUnending (liveIn (size g) l) (nextIn (size g) l) (size g)) front ∙ sym (first-endless-is g codes long)
+  first-endless = front-first g codes long t₁ front
 
   -- the labels
   labels-are : table (size g) (lastMark (liveAt (size g) t₁) (nextAt (size g) t₁) (size g)) ≡ labels g codes

@@ -14,7 +14,7 @@ ghost use Rattle.grid.specs.Promises.{LabelsPromise};
 ghost use Rattle.route_laws.specs.Receivers.{AllCodes};
 ghost use Rattle.checks.specs.Sizes.{Fits};
 
-// The labels, if every route ends, in the lent tail; the result is the first cell whose route does not, or rows * cols.
+// The labels, if every route ends, by way of the lent tail; the result is the first cell whose route does not, or rows * cols.
 fn labels_into(g: Grid, codes: &[u8], labels: &mut [u32], tail: &mut [u32]) -> usize
     requires { ⌜ Fits g ⌝ }
     requires { ⌜ length (now codes) ≡ size g ⌝ }

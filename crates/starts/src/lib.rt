@@ -5,7 +5,7 @@ use grid::Answer;
 use grid::Counted;
 use grid::Grid;
 ghost use mathlib.Core.Path.{_≡_};
-ghost use Prim.Native.Nat.{_*_, _<_, _≤_};
+ghost use Prim.Native.Nat.{_+_, _<_, _≤_};
 ghost use lib.ListN.{length};
 ghost use Rattle.grid.specs.Sheet.{size};
 ghost use Rattle.grid.specs.Promises.{StartsPromise};
@@ -26,7 +26,7 @@ fn starts_into(
     requires { ⌜ length (now codes) ≡ size g ⌝ }
     requires { ⌜ length (now counts) ≡ size g ⌝ }
     requires { ⌜ length (now starts) ≡ size g ⌝ }
-    requires { ⌜ 2 * size g ≤ length (now tail) ⌝ }
+    requires { ⌜ size g + size g ≤ length (now tail) ⌝ }
     requires { ⌜ AllCodes (now codes) ⌝ }
     ensures { λ r. ⌜ Started g (now (codes .entry)) (now (counts .entry)) threshold (now (starts .entry)) (now (starts .exit)) r ⌝ }
 {

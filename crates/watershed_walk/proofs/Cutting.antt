@@ -21,9 +21,8 @@ use Rattle.route_laws.specs.Starts.{cut, startOf, OnRoutes}
 use Rattle.route_laws.specs.Walking.{liveAt, nextAt, Walked}
 use Rattle.route_laws.proofs.Front.{is-front, at-front}
 use Rattle.route_laws.proofs.Routes.{all-end, first-unending-none, last-small}
-use Rattle.route_laws.proofs.Receivers.{mark-at, live-below, receivers-marks, length-receivers, first-endless-is}
+use Rattle.route_laws.proofs.Receivers.{mark-at, live-below, receivers-marks, length-receivers, first-endless-is, receivers-front}
 use Rattle.route_laws.proofs.Starts.{length-cut, cut-marks, cut-ends, on-routes, watersheds-are}
-use Rattle.labelling.proofs.Sheet.{front}
 
 -- ---- one place
 pub cut-none : (n : ℕ) (starts t : List ℕ) (c : ℕ) → getD starts c 0 ≡ 0 → t ≡ set t c (cond (ltb 0 (getD starts c 0)) n (getD t c 0))
@@ -99,7 +98,7 @@ module _ (g : Grid) (codes starts t₀ t₁ t₂ : List ℕ) (long : length code
   front-cut =
       ap (take (size g)) e₂
       ∙ take-at (cut (size g) starts (take (size g) t₁)) (drop (size g) t₁) (size g) (length-cut (size g) starts (take (size g) t₁))
-      ∙ ap (cut (size g) starts) (front g codes (drop (size g) t₀) t₁ long e₁)
+      ∙ ap (cut (size g) starts) (receivers-front g codes (drop (size g) t₀) t₁ long e₁)
 
   pub marks-cut : Marks (size g) (take (size g) t₂)
   marks-cut = subst (Marks (size g)) (sym front-cut) (cut-marks (size g) starts (receivers g codes) (receivers-marks g codes long) on)

@@ -1,5 +1,6 @@
 -- The first i results are the counts of their words.
 use Prim.Native.Nat.{_-_, _≤_}
+use mathlib.Core.Path.{refl}
 use native.Mathlib.Omega.{arith}
 use borrow.Author.Needs.{needs}
 use Rattle.counting.proofs.Copies.{CopiedTo, copied-none, copied-more, copied-all}
@@ -41,8 +42,7 @@ loop-again c =
     let s = c .before .before .before in
     let l = c .before .loop-test .taken in (
       omega arith,
-      copied-more (s .args .n) (s .args .tail .now) _ _ _ (c .before .before .loop .inv .1)
-          (let h = s .pre .1 in omega arith),
+      copied-more (s .args .n) (s .args .tail .now) _ _ _ _ (c .before .before .loop .inv .1) (let h = s .pre .1 in omega arith) refl,
     )
 
 same-length : tie.Need-same-length Inv-loop μ-loop

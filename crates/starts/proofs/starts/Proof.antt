@@ -73,7 +73,7 @@ starts-into-requires c κs =
           (
             s .result-long,
             (
-              let h = half-room (size (a .g)) (a .work .now) (s .room) in omega arith,
+              half-room (size (a .g)) (a .work .now) (s .room),
               all-codes (a .g) (a .codes .now) (s .codes-long) e,
             ),
           ),
