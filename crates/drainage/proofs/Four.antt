@@ -10,7 +10,7 @@ use lib.IntN.{ℤ}
 use borrow.Author.Tests.{eq-eqb, ne-eqb}
 use Rattle.grid.specs.declared.Grid.{Grid}
 use Rattle.grid.specs.declared.Answer.{Answer}
-use Rattle.grid.specs.Sheet.{size}
+use Rattle.grid.specs.Sheet.{size, SixteenBits}
 use Rattle.grid.specs.Outlet.{firstStranded}
 use Rattle.grid.specs.Fill as F
 use Rattle.grid.specs.Directions as D
@@ -19,7 +19,6 @@ use Rattle.grid.specs.Checks.{refusal, accepted, isAccepted, askReach}
 use Rattle.grid.specs.Guarantee.{Guarantee}
 use Rattle.grid.specs.Promises.{FourResults}
 use Rattle.grid_laws.proofs.Tests.{T-true, true-false, cond-true, cond-false}
-use Rattle.grid_laws.proofs.Cells.{InRange}
 use Rattle.checks.proofs.Gate.{kept}
 use Rattle.checks.proofs.Asked.{Sized}
 use Rattle.checks.proofs.Questions.{reach-no}
@@ -58,7 +57,7 @@ module _ (g : Grid) (input f₀ f₁ : List ℤ) (k₀ a₀ l₀ : List ℕ) (r 
       }
 
   -- a yes: the four results, and demand 3 about them
-  module _ (z : r .number ≡ 0) (cells : length input ≡ size g) (range : InRange input) (reach : firstStranded g input ≡ size g)
+  module _ (z : r .number ≡ 0) (cells : length input ≡ size g) (range : SixteenBits input) (reach : firstStranded g input ≡ size g)
       (k₁ a₁ l₁ : List ℕ) (fills : f₁ ≡ F.filled g input) (codes : k₁ ≡ D.directions g (F.filled g input))
       (counts : a₁ ≡ R.counts g k₁) (labels : l₁ ≡ R.labels g k₁) where
     demanded : Guarantee g input f₁ k₁ a₁ l₁

@@ -10,13 +10,12 @@ use lib.ListN.{length, take, drop}
 use lib.IntN.{ℤ}
 use borrow.Author.Tests.{eq-eqb}
 use Rattle.grid.specs.declared.Grid.{Grid}
-use Rattle.grid.specs.Sheet.{size}
+use Rattle.grid.specs.Sheet.{size, SixteenBits}
 use Rattle.grid.specs.Outlet.{firstStranded}
 use Rattle.grid.specs.Fill.{filled}
 use Rattle.grid.specs.Directions.{directions, firstUnlevelled}
 use Rattle.grid.specs.Routes.{firstEndless}
 use Rattle.grid_laws.proofs.Tests.{cond-true}
-use Rattle.grid_laws.proofs.Cells.{InRange}
 use Rattle.route_laws.specs.Receivers.{AllCodes}
 use Rattle.checks.proofs.Room.{half-room}
 use Rattle.checks.proofs.Questions.{stranded-≤}
@@ -24,7 +23,7 @@ use Rattle.guarantee_laws.proofs.OneCall.{all-levelled, codes-length, all-codes
 use Rattle.drainage.specs.Results.{Measured, Routable}
 
 module _ (g : Grid) (e f₀ f₁ : List ℤ) (k₀ k₁ : List ℕ) (f k a l w s r : ℕ) (M : Measured g f k a l w) (cells : length e ≡ size g)
-    (range : InRange e) (stranded : s ≡ firstStranded g e) (none : f ≤ s) (written : f₁ ≡ cond (eqb s (size g)) (filled g e) f₀)
+    (range : SixteenBits e) (stranded : s ≡ firstStranded g e) (none : f ≤ s) (written : f₁ ≡ cond (eqb s (size g)) (filled g e) f₀)
     (first : r ≡ firstUnlevelled g f₁) (flows : k₁ ≡ cond (eqb r (size g)) (directions g f₁) k₀) where
   all : s ≡ size g
   all = let most = stranded-≤ g e in let long = M .filled-has in omega arith

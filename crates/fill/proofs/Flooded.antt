@@ -13,13 +13,13 @@ use lib.IntN.{ℤ}
 use lib.Signed.{_≤ℤ_}
 use borrow.Author.Tests.{lt-ltb, ltb-true, eq-eqb, ne-eqb}
 use Rattle.grid.specs.declared.Grid.{Grid}
-use Rattle.grid.specs.Sheet.{size, higher, at, isData, DataCell, neighbour}
+use Rattle.grid.specs.Sheet.{size, higher, at, isData, DataCell, neighbour, SixteenBits}
 use Rattle.grid.specs.Outlet.{isOutlet, leavesAt, Outlet, drained, firstStranded}
 use Rattle.grid.specs.Fill.{filled}
 use Rattle.grid_laws.proofs.Tests.{test, T-true, true-T, true-false, not-true-false, not-of-true, not-of-false, not-is-true}
 use Rattle.grid_laws.proofs.Tests.{and-false-left, and-false-right}
 use Rattle.grid_laws.proofs.Order.{≤ℤ-trans, ≤ℤ-of-eq, ≤-higher-left, ≤-higher-right}
-use Rattle.grid_laws.proofs.Cells.{InRange, on-sheet, no-data-void}
+use Rattle.grid_laws.proofs.Cells.{on-sheet, no-data-void}
 use Rattle.grid_laws.proofs.Neighbours.{neighbour-≤}
 use Rattle.grid_laws.proofs.Outlets.{leaves-off, leaves-on, outlet-data, outlet-leaves, leaves-outlet}
 use Rattle.cells.specs.Keys.{keyOf, levelOf}
@@ -34,7 +34,7 @@ use Rattle.fill_laws.proofs.Paths.{WayOut}
 use Rattle.fill_laws.proofs.Reach.{drained-way, way-drained, some-way}
 use Rattle.fill_laws.proofs.Certified.{certificate-filled}
 
-module _ (g : Grid) (e : List ℤ) (f : List ℕ) (cells : length e ≡ size g) (range : InRange e)
+module _ (g : Grid) (e : List ℤ) (f : List ℕ) (cells : length e ≡ size g) (range : SixteenBits e)
     (keys : (c : ℕ) → c < size g → getD f c 0 ≡ keyOf (at e c)) where
   -- ---- cells, neighbours and outlets by keys are those of the sheet
   cell-to : (c : ℕ) → DataCell e c → CellOf (size g) f c

@@ -10,13 +10,12 @@ use lib.ListN.{length, getD, set}
 use lib.IntN.{ℤ}
 use lib.Signed.{_≤ℤ_}
 use borrow.Author.Tests.{lt-ltb, le-ltb}
-use Rattle.grid.specs.Sheet.{void, top, at}
+use Rattle.grid.specs.Sheet.{void, top, at, SixteenBits}
 use Rattle.grid_laws.proofs.Tests.{and-false-left}
 use Rattle.grid_laws.proofs.Lists.{at-set}
-use Rattle.grid_laws.proofs.Cells.{InRange}
+use Rattle.grid_laws.proofs.Cells.{all-sixteen}
 use Rattle.cells.specs.Keys.{keyOf}
 use Rattle.fill.specs.Words.{isUnreached}
-use Rattle.fill.proofs.Words.{in-range}
 
 -- the first i elevations are loaded
 abbrev pub LoadTo : List ℤ → List ℕ → ℕ → Type 0
@@ -30,8 +29,8 @@ load-more e w i v hw k r L x h =
     (λ q. rw (q .1) (L x (let n = q .0 in omega arith)))
     (at-set 0 w i v hw x)
 
-pub load-end : (e : List ℤ) (w : List ℕ) → LoadTo e w (length e) → InRange e
-load-end e w L = in-range e (λ x h. let q = L x h in (q .1, q .2))
+pub load-end : (e : List ℤ) (w : List ℕ) → LoadTo e w (length e) → SixteenBits e
+load-end e w L = all-sixteen e (λ x h. let q = L x h in (q .1, q .2))
 
 -- the first i levels are unloaded
 pub unload-more : (f : ℕ → ℤ) (out : List ℤ) (i : ℕ) (v : ℤ) → i < length out → v ≡ f i → ((c : ℕ) → c < i → at out c ≡ f c) → (c : ℕ) →

@@ -25,7 +25,7 @@ use Rattle.flood_laws.proofs.Packed.{front-key, packed-none, packed-key, packed
 use Rattle.fill_laws.proofs.Left.{open-reach}
 use Rattle.fill.specs.Words.{sheetIn, Words, isUnreached}
 use Rattle.fill.proofs.Flooded.{stranded-by, flooded-filled}
-use Rattle.fill.proofs.Words.{sheet-length, sheet-key, sheet-in-range}
+use Rattle.fill.proofs.Words.{sheet-length, sheet-key, sheet-sixteen}
 
 module _ (g : Grid) (w1 w2 : List ℕ) (keys : AreKeys (size g) w1) (S : Sorted (size g) w2)
     (kept : (x : ℕ) → x < size g → getD w2 x 0 ≡ getD w1 x 0) where
@@ -64,7 +64,7 @@ module _ (g : Grid) (w1 w2 : List ℕ) (keys : AreKeys (size g) w1) (S : Sorted 
     unreached-at c h =
         word (getD w3 c 0) (getD (frontOf (size g) w2) c 0) (getD (backOf (size g) half w3) (size g + c) 0)
         (sym (ap (λ (l : List ℕ). getD l c 0) front) ∙ front-key (size g) w3 c h) (back-level (size g) half w3 c h)
-        ∙ sym (stranded-by g (sheetIn (size g) w1) (frontOf (size g) w2) (sheet-length (size g) w1) (sheet-in-range (size g) w1 keys) key-at
+        ∙ sym (stranded-by g (sheetIn (size g) w1) (frontOf (size g) w2) (sheet-length (size g) w1) (sheet-sixteen (size g) w1 keys) key-at
         (backOf (size g) half w3) (flood .0) (flood .1) c h)
       where
         word : (w k l : ℕ) → k ≡ w % 65536 → l ≡ w / 65536 → (ltb 0 w && ltb w 65536) ≡ (ltb 0 k && eqb l 0)
@@ -85,7 +85,7 @@ module _ (g : Grid) (w1 w2 : List ℕ) (keys : AreKeys (size g) w1) (S : Sorted 
     module _ (reach : firstStranded g (sheetIn (size g) w1) ≡ size g) where
       levels-filled : levels ≡ filled g (sheetIn (size g) w1)
       levels-filled =
-          flooded-filled g (sheetIn (size g) w1) (frontOf (size g) w2) (sheet-length (size g) w1) (sheet-in-range (size g) w1 keys) key-at
+          flooded-filled g (sheetIn (size g) w1) (frontOf (size g) w2) (sheet-length (size g) w1) (sheet-sixteen (size g) w1 keys) key-at
           (backOf (size g) half w3) (flood .0) (flood .1) reach levels
           (λ c h. level-at c h ∙ ap levelOf (sym (back-level (size g) half w3 c h))) levels-length
 

@@ -3,29 +3,20 @@ use mathlib.Core.Path.{_≡_, sym, _∙_, ap, subst}
 use mathlib.Core.List.{List}
 use Prim.Native.Nat.{ℕ, _/_, _%_, _≤_, _<_}
 use native.Mathlib.Omega.{arith}
-use native.Mathlib.Decide.{decLt}
-use lib.ListN.{length, getD, List·getD-eq-default}
+use lib.ListN.{length, getD}
 use lib.Seq.{ext-getD}
 use lib.IntN.{ℤ}
 use lib.Signed.{_≤ℤ_}
 use Rattle.grid.specs.declared.Grid.{Grid}
-use Rattle.grid.specs.Sheet.{size, void, top, at}
+use Rattle.grid.specs.Sheet.{size, void, top, at, SixteenBits}
 use Rattle.grid.specs.Fill.{filled}
 use Rattle.grid_laws.proofs.Below.{at-table, length-table, is-table}
-use Rattle.grid_laws.proofs.Cells.{InRange}
+use Rattle.grid_laws.proofs.Cells.{all-sixteen}
 use Rattle.cells.specs.Keys.{keyOf, levelOf}
-use Rattle.cells.proofs.Keys.{level-key, key-level, level-above-void, level-top, key-small, least, void-top}
+use Rattle.cells.proofs.Keys.{level-key, key-level, level-above-void, level-top, key-small}
 use Rattle.key_sort.specs.Order.{AreKeys}
 use Rattle.fill_laws.proofs.Filled.{filled-length, filled-range}
 use Rattle.fill.specs.Words.{sheetIn, Words}
-
--- what lies off the sheet is in range
-pub in-range : (e : List ℤ) → ((c : ℕ) → c < length e → (void ≤ℤ at e c) × (at e c ≤ℤ top)) → InRange e
-in-range e on c = go (decLt c (length e))
-  where
-    go : Dec (c < length e) → (void ≤ℤ at e c) × (at e c ≤ℤ top)
-    go (yes h) = on c h
-    go (no f) = let q : length e ≤ c = omega arith in rw (List·getD-eq-default e void q) (least, void-top)
 
 module _ (n : ℕ) (w : List ℕ) where
   pub sheet-length : length (sheetIn n w) ≡ n
@@ -39,13 +30,13 @@ module _ (n : ℕ) (w : List ℕ) where
   pub sheet-key : (c : ℕ) → c < n → getD w c 0 ≡ keyOf (at (sheetIn n w) c)
   sheet-key c h = sym (ap keyOf (sheet-at c h) ∙ key-level (getD w c 0))
 
-  pub sheet-in-range : AreKeys n w → InRange (sheetIn n w)
-  sheet-in-range K = in-range (sheetIn n w) (λ c h. on c (rw sheet-length at h))
+  pub sheet-sixteen : AreKeys n w → SixteenBits (sheetIn n w)
+  sheet-sixteen K = all-sixteen (sheetIn n w) (λ c h. on c (rw sheet-length at h))
     where
       on : (c : ℕ) → c < n → (void ≤ℤ at (sheetIn n w) c) × (at (sheetIn n w) c ≤ℤ top)
       on c h = rw (sheet-at c h) (level-above-void (getD w c 0), level-top (getD w c 0) (K c h))
 
-module _ (g : Grid) (e : List ℤ) (w : List ℕ) (cells : length e ≡ size g) (range : InRange e)
+module _ (g : Grid) (e : List ℤ) (w : List ℕ) (cells : length e ≡ size g) (range : SixteenBits e)
     (loaded : (c : ℕ) → c < length e → getD w c 0 ≡ keyOf (at e c)) where
   pub loaded-keys : AreKeys (size g) w
   loaded-keys c h = rw (loaded c (omega arith)) (key-small (at e c) (range c .1))
@@ -59,7 +50,7 @@ module _ (g : Grid) (e : List ℤ) (w : List ℕ) (cells : length e ≡ size g) 
 pub words-of : (g : Grid) (s e : List ℤ) (w : List ℕ) → s ≡ e → Words g s w → Words g e w
 words-of g s e w q W = subst (λ (x : List ℤ). Words g x w) q W
 
-module _ (g : Grid) (e : List ℤ) (w : List ℕ) (cells : length e ≡ size g) (range : InRange e) (W : Words g e w) where
+module _ (g : Grid) (e : List ℤ) (w : List ℕ) (cells : length e ≡ size g) (range : SixteenBits e) (W : Words g e w) where
   pub words-key : (c : ℕ) → c < size g → getD w c 0 % 65536 ≡ keyOf (at e c)
   words-key c h = let k = key-small (at e c) (range c .1) in let q = W c h in omega arith
 

@@ -12,21 +12,20 @@ ghost use Prim.Native.Nat.{ℕ, _*_, _/_, _<_, _≤_, _^_};
 ghost use lib.Dec.{eqb, ltb};
 ghost use lib.ListN.{length, getD};
 ghost use Rattle.grid.specs.Below.{firstBelow};
-ghost use Rattle.grid.specs.Sheet.{size, at};
+ghost use Rattle.grid.specs.Sheet.{size, at, SixteenBits};
 ghost use Rattle.grid.specs.Outlet.{firstStranded};
 ghost use Rattle.grid.specs.Fill.{filled as filled'};
 ghost use Rattle.grid.specs.Promises.{FillPromise};
 ghost use Rattle.cells.specs.Keys.{keyOf, levelOf};
 ghost use Rattle.key_sort.specs.Order.{AreKeys};
 ghost use Rattle.fill.specs.Words.{sheetIn, Words, isUnreached};
-ghost use Rattle.grid_laws.proofs.Cells.{InRange};
 
 // Puts the keys of the elevations first into the work buffer.
 pub fn load(elevations: &[i16], work: &mut [u32])
     requires { ⌜ length (now elevations) ≤ length (now work) ⌝ }
     ensures { λ r. ⌜ ((c : ℕ) → c < length (now (elevations .entry)) →
         getD (now (work .exit)) c 0 ≡ keyOf (at (now (elevations .entry)) c)) ⌝ }
-    ensures { λ r. ⌜ InRange (now (elevations .entry)) ⌝ }
+    ensures { λ r. ⌜ SixteenBits (now (elevations .entry)) ⌝ }
 {
     let mut i: usize = 0;
     while i < elevations.len() {
@@ -123,7 +122,7 @@ pub fn fill_sheet(g: Grid, elevations: &[i16], work: &mut [u32]) -> usize
     requires { ⌜ 4 * size g ≤ length (now work) ⌝ }
     ensures { λ r. ⌜ r ≡ firstStranded g (now (elevations .entry)) ⌝ }
     ensures { λ r. ⌜ (r ≡ size g → Words g (now (elevations .entry)) (now (work .exit))) ⌝ }
-    ensures { λ r. ⌜ InRange (now (elevations .entry)) ⌝ }
+    ensures { λ r. ⌜ SixteenBits (now (elevations .entry)) ⌝ }
 {
     load(elevations, work);
     fill_words(g, work)

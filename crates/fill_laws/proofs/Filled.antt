@@ -24,13 +24,13 @@ use lib.IntN.{ℤ}
 use lib.Signed.{_≤ℤ_, ≤ℤ-refl}
 use Rattle.grid.specs.declared.Grid.{Grid}
 use Rattle.grid.specs.Below.{lastOf}
-use Rattle.grid.specs.Sheet.{size, void, top, at, isData, DataCell, Chain, NeverRises, highest}
+use Rattle.grid.specs.Sheet.{size, void, top, at, isData, DataCell, Chain, NeverRises, highest, SixteenBits}
 use Rattle.grid.specs.Outlet.{isOutlet, Outlet, firstStranded}
 use Rattle.grid.specs.Fill.{passes, filled}
 use Rattle.grid.specs.Guarantee.{PathToOutlet, DrainedSheet}
 use Rattle.grid_laws.proofs.Tests.{test, T-true, true-T, true-false, not-false-true}
 use Rattle.grid_laws.proofs.Order.{≤ℤ-trans, ≤ℤ-antisym, ≤ℤ-of-eq}
-use Rattle.grid_laws.proofs.Cells.{InRange, void-no-data, no-data-void}
+use Rattle.grid_laws.proofs.Cells.{void-no-data, no-data-void}
 use Rattle.grid_laws.proofs.Outlets.{same-outlets}
 use Rattle.join_laws.specs.Ways.{stop, step, cells}
 use Rattle.fill_laws.specs.Filling.{Falls, Filling}
@@ -56,7 +56,7 @@ pub filled-length : (g : Grid) (e : List ℤ) → length (filled g e) ≡ size g
 unfolding filled
 filled-length g e = length-passes g e (size g)
 
-module _ (g : Grid) (e : List ℤ) (cells-e : length e ≡ size g) (range : InRange e) where
+module _ (g : Grid) (e : List ℤ) (cells-e : length e ≡ size g) (range : SixteenBits e) where
   fills : Filling (size g) (DataCell e) (Outlet g e) (DataNeighbours g e) (at e) (λ k c. at (passes g e k) c)
   fills = filling g e cells-e range
 
@@ -82,7 +82,7 @@ module _ (g : Grid) (e : List ℤ) (cells-e : length e ≡ size g) (range : InRa
   unfolding filled
   filled-≤-top c d = Squeeze.≤-top fills (size g) c d
 
-  pub filled-range : InRange (filled g e)
+  pub filled-range : SixteenBits (filled g e)
   filled-range c =
       ⊎-elim
       (λ t. (≤ℤ-trans (range c .0) (input-≤-filled c (true-T t)), filled-≤-top c (true-T t)))
@@ -130,7 +130,7 @@ module _ (g : Grid) (e : List ℤ) (cells-e : length e ≡ size g) (range : InRa
       Squeeze.≤-drained fills (at other) (D .above) (w .0) r
 
 -- ---- on a sheet that passes question 18
-module _ (g : Grid) (e : List ℤ) (cells-e : length e ≡ size g) (range : InRange e) (reach : firstStranded g e ≡ size g) where
+module _ (g : Grid) (e : List ℤ) (cells-e : length e ≡ size g) (range : SixteenBits e) (reach : firstStranded g e ≡ size g) where
   -- all that these laws use of what an outlet is
   way-out : (c : ℕ) → DataCell e c → WayOut g e c
   way-out c d = some-way g e cells-e reach c d
@@ -178,7 +178,7 @@ module _ (g : Grid) (e : List ℤ) (cells-e : length e ≡ size g) (range : InRa
 pub drained-filled :
     (g : Grid) (f : List ℤ)
     → length f ≡ size g
-    → InRange f
+    → SixteenBits f
     → ((c : ℕ) → DataCell f c → (l : List ℕ) × PathToOutlet g f c l × NeverRises f l)
     → filled g f ≡ f
 drained-filled g f cells-f range drains =
@@ -191,7 +191,7 @@ drained-filled g f cells-f range drains =
     own : DrainedSheet g f f
     own = record { cells = cells-f; voids = λ c h. refl; outlets = λ c h. refl; above = λ c d. ≤ℤ-refl (at f c); drains = drains }
 
-pub filled-again : (g : Grid) (e : List ℤ) → length e ≡ size g → InRange e → firstStranded g e ≡ size g → filled g (filled g e) ≡ filled g e
+pub filled-again : (g : Grid) (e : List ℤ) → length e ≡ size g → SixteenBits e → firstStranded g e ≡ size g → filled g (filled g e) ≡ filled g e
 filled-again g e cells-e range reach =
     drained-filled g (filled g e) (filled-length g e) (filled-range g e cells-e range)
     (λ c d. let p = never-rising-path g e cells-e range reach c (subst T (filled-data g e cells-e range c) d) in

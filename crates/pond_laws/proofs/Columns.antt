@@ -9,12 +9,11 @@ use lib.IntN.{ℤ, pos}
 use borrow.Author.Tests.{eqb-true, eq-eqb}
 use Rattle.grid.specs.declared.Grid.{Grid}
 use Rattle.grid.specs.Below.{table, sumBelow, firstBelow}
-use Rattle.grid.specs.Sheet.{size, void, at}
+use Rattle.grid.specs.Sheet.{size, void, at, SixteenBits}
 use Rattle.grid.specs.Fill.{filled}
 use Rattle.grid.specs.Ponds.{ponds, pondCount, depth, pondLevel, pondCells, pondVolume}
 use Rattle.grid_laws.proofs.Lists.{any-default, overwritten}
 use Rattle.grid_laws.proofs.Below.{at-table, length-table, sum-ext, first-found, first-least}
-use Rattle.grid_laws.proofs.Cells.{InRange}
 use Rattle.pond_laws.specs.Gathered.{Column, Gathered}
 use Rattle.pond_laws.proofs.Level.{same-number, some-cell, number-≤}
 use Rattle.pond_laws.proofs.Total.{total}
@@ -32,7 +31,7 @@ module _ {A : Type 0} (d : A) (count : ℕ) (value : ℕ → A) where
       overwritten d (table count value) old (length-table count value) h (C .same-length)
       (λ k l. v k l ∙ sym (at-table count value k d l)) (C .past)
 
-module _ (g : Grid) (e : List ℤ) (long : length e ≡ size g) (range : InRange e) where
+module _ (g : Grid) (e : List ℤ) (long : length e ≡ size g) (range : SixteenBits e) where
   abbrev f : List ℤ
   f = filled g e
 

@@ -11,16 +11,16 @@ use lib.IntN.{ℤ, pos, _-ℤ_}
 use lib.Signed.{ltZ}
 use borrow.Author.Tests.{le-ltb, ltb-false}
 use Rattle.grid.specs.declared.Grid.{Grid}
-use Rattle.grid.specs.Sheet.{size, at, isData}
+use Rattle.grid.specs.Sheet.{size, at, isData, SixteenBits}
 use Rattle.grid.specs.Fill.{filled}
 use Rattle.grid.specs.Ponds.{isWet, natural, depth}
 use Rattle.cells.specs.Keys.{keyOf}
 use Rattle.cells.proofs.Keys.{key-void, key-small, key-mono, key-less, key-drop}
 use Rattle.grid_laws.proofs.Tests.{test, true-T, same-test, and-true, and-right, and-false-left}
-use Rattle.grid_laws.proofs.Cells.{InRange, no-data-void}
+use Rattle.grid_laws.proofs.Cells.{no-data-void}
 use Rattle.fill_laws.proofs.Filled.{input-≤-filled, filled-voids, filled-range}
 
-module _ (g : Grid) (e : List ℤ) (long : length e ≡ size g) (range : InRange e) where
+module _ (g : Grid) (e : List ℤ) (long : length e ≡ size g) (range : SixteenBits e) where
   abbrev f : List ℤ
   f = filled g e
 

@@ -14,12 +14,11 @@ use lib.IntN.{ℤ, pos}
 use borrow.Author.Tests.{eq-eqb, ne-eqb}
 use Rattle.grid.specs.declared.Grid.{Grid}
 use Rattle.grid.specs.Below.{sumBelow, countBelow}
-use Rattle.grid.specs.Sheet.{size, void, at}
+use Rattle.grid.specs.Sheet.{size, void, at, SixteenBits}
 use Rattle.grid.specs.Fill.{filled}
 use Rattle.grid.specs.Ponds.{depth, ponds}
 use Rattle.grid_laws.proofs.Tests.{cond-true, cond-false}
 use Rattle.grid_laws.proofs.Below.{sum-suc, sum-bound, count-≤}
-use Rattle.grid_laws.proofs.Cells.{InRange}
 use Rattle.pond_laws.specs.Gathered.{Column, Gathered}
 use Rattle.pond_laws.proofs.Depth.{depth-small}
 use Rattle.pond_laws.proofs.Level.{same-number}
@@ -111,7 +110,7 @@ module _ (e f : List ℤ) (l : List ℕ) (count : ℕ) {level₀ level : List �
   pub cells-bound : (c k : ℕ) → k < count → Gathered e f l count c level₀ level cells₀ cells volume₀ volume → getD cells k 0 ≤ c
   cells-bound c k h G = let a = G .counts k h in let b = count-≤ c (λ d. eqb (getD l d 0) (k + 1)) in omega arith
 
-module _ (g : Grid) (e : List ℤ) (long : length e ≡ size g) (range : InRange e) where
+module _ (g : Grid) (e : List ℤ) (long : length e ≡ size g) (range : SixteenBits e) where
   abbrev f : List ℤ
   f = filled g e
 

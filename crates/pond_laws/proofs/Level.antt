@@ -13,13 +13,13 @@ use lib.Signed.{ltZ, _≤ℤ_, _<ℤ_, ltZ-yes, clashℤ}
 use borrow.Author.Tests.{eqb-true}
 use Rattle.grid.specs.declared.Grid.{Grid}
 use Rattle.grid.specs.Below.{countBelow}
-use Rattle.grid.specs.Sheet.{size, at, higher, isData, Touch}
+use Rattle.grid.specs.Sheet.{size, at, higher, isData, Touch, SixteenBits}
 use Rattle.grid.specs.Fill.{filled}
 use Rattle.grid.specs.Ponds.{isWet, pondOf, lowestCell, isLowest, ponds, pondCount}
 use Rattle.grid_laws.proofs.Tests.{test, true-T, true-false, not-false-true, and-right}
 use Rattle.grid_laws.proofs.Below.{count-past, count-apart, count-find}
 use Rattle.grid_laws.proofs.Order.{≤ℤ-trans, ≤ℤ-antisym, ≤ℤ-of-eq, higher-cases}
-use Rattle.grid_laws.proofs.Cells.{InRange, on-sheet}
+use Rattle.grid_laws.proofs.Cells.{on-sheet}
 use Rattle.grid_laws.proofs.Neighbours.{touch-back}
 use Rattle.fill_laws.specs.Certificate.{DataNeighbours}
 use Rattle.fill_laws.proofs.Passes.{filling}
@@ -30,7 +30,7 @@ use Rattle.pond_laws.proofs.Same.{InPond, wet-data, wet-on, lowest-on, 
 use Rattle.pond_laws.proofs.Same.{pond-back, pond-on, pond-wet, lowest-same}
 use Rattle.pond_laws.proofs.Numbered.{number-dry, number-wet}
 
-module _ (g : Grid) (e : List ℤ) (long : length e ≡ size g) (range : InRange e) where
+module _ (g : Grid) (e : List ℤ) (long : length e ≡ size g) (range : SixteenBits e) where
   abbrev f : List ℤ
   f = filled g e
 

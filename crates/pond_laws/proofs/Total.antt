@@ -12,17 +12,16 @@ use lib.IntN.{ℤ}
 use borrow.Author.Tests.{eq-eqb, ne-eqb}
 use Rattle.grid.specs.declared.Grid.{Grid}
 use Rattle.grid.specs.Below.{sumBelow}
-use Rattle.grid.specs.Sheet.{size}
+use Rattle.grid.specs.Sheet.{size, SixteenBits}
 use Rattle.grid.specs.Fill.{filled}
 use Rattle.grid.specs.Ponds.{isWet, ponds, pondCount, depth, pondVolume}
 use Rattle.grid_laws.proofs.Tests.{test, cond-true, cond-false}
 use Rattle.grid_laws.proofs.Below.{sum-ext, sum-zero, sum-change, sum-swap, sum-bound}
-use Rattle.grid_laws.proofs.Cells.{InRange}
 use Rattle.pond_laws.proofs.Numbered.{number-dry, number-wet}
 use Rattle.pond_laws.proofs.Depth.{depth-small, dry-depth}
 use Rattle.pond_laws.proofs.Level.{number-≤}
 
-module _ (g : Grid) (e : List ℤ) (long : length e ≡ size g) (range : InRange e) where
+module _ (g : Grid) (e : List ℤ) (long : length e ≡ size g) (range : SixteenBits e) where
   abbrev f : List ℤ
   f = filled g e
 

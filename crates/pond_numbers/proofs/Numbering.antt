@@ -11,11 +11,10 @@ use lib.Seq.{getD-set-same, getD-set-other}
 use lib.IntN.{ℤ}
 use Rattle.grid.specs.declared.Grid.{Grid}
 use Rattle.grid.specs.Below.{table}
-use Rattle.grid.specs.Sheet.{size}
+use Rattle.grid.specs.Sheet.{size, SixteenBits}
 use Rattle.grid.specs.Fill.{filled}
 use Rattle.grid.specs.Ponds.{isWet}
 use Rattle.grid_laws.proofs.Below.{table-ext}
-use Rattle.grid_laws.proofs.Cells.{InRange}
 use Rattle.fill.specs.Words.{Words}
 use Rattle.fill.proofs.Words.{words-key, words-filled}
 use Rattle.join_laws.specs.Search.{partOf, Parts, joinedMarks, Searching, GoesOn}
@@ -50,7 +49,7 @@ part-table : (w : List ℕ) (n start : ℕ) (f : ℕ → ℕ) → ((i : ℕ) →
 unfolding partOf
 part-table w n start f h = table-ext n (λ i. getD w (start + i) 0) f h
 
-pub marked-all : (g : Grid) (e : List ℤ) (w₀ w : List ℕ) → length e ≡ size g → InRange e → Words g e w₀ → MarkedTo (size g) w₀ w (size g) →
+pub marked-all : (g : Grid) (e : List ℤ) (w₀ w : List ℕ) → length e ≡ size g → SixteenBits e → Words g e w₀ → MarkedTo (size g) w₀ w (size g) →
     Numbered g e w 0 0
 marked-all g e w₀ w long range W M =
     record {

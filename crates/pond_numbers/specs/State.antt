@@ -5,9 +5,8 @@ use Prim.Native.Nat.{ℕ, _*_, _≤_, _<_, _^_}
 use lib.ListN.{length}
 use lib.IntN.{ℤ}
 use Rattle.grid.specs.declared.Grid.{Grid}
-use Rattle.grid.specs.Sheet.{size}
+use Rattle.grid.specs.Sheet.{size, SixteenBits}
 use Rattle.grid.specs.Fill.{filled}
-use Rattle.grid_laws.proofs.Cells.{InRange}
 use Rattle.fill.specs.Words.{Words}
 use Rattle.join_laws.specs.Search.{partOf}
 use Rattle.pond_laws.specs.Numbered.{marksTo, pondsTo}
@@ -21,7 +20,7 @@ pub record Sizes (g : Grid) (e : List ℤ) (work : ℕ) : Type 0 where
 
 -- the ponds are numbered whose lowest cell is before c: `count` of them
 pub record Numbered (g : Grid) (e : List ℤ) (w : List ℕ) (c count : ℕ) : Type 0 where
-  pub range : InRange e
+  pub range : SixteenBits e
   pub words : Words g e w
   pub marks : partOf (size g) (size g) w ≡ marksTo g e (filled g e) c
   pub counted : count ≡ pondsTo g e (filled g e) c

@@ -8,8 +8,7 @@ ghost use mathlib.Core.Bool.{cond};
 ghost use Prim.Native.Nat.{_+_, _*_, _/_, _%_, _<_, _^_};
 ghost use lib.Dec.{ltb};
 ghost use lib.ListN.{length, getD};
-ghost use Rattle.grid.specs.Sheet.{size};
-ghost use Rattle.grid_laws.proofs.Cells.{InRange};
+ghost use Rattle.grid.specs.Sheet.{size, SixteenBits};
 ghost use Rattle.cells.specs.Steps.{Offsets};
 ghost use Rattle.fill.specs.Words.{Words};
 ghost use Rattle.pond_numbers.specs.State.{Sizes, Numbered};
@@ -27,7 +26,7 @@ fn wet_mark(word: u32) -> u32
 // Marks the wet cells.
 fn mark_wet(g: Grid, elevations: &[i16], work: &mut [u32])
     requires { ⌜ Sizes g (now elevations) (length (now work)) ⌝ }
-    requires { ⌜ InRange (now elevations) ⌝ }
+    requires { ⌜ SixteenBits (now elevations) ⌝ }
     requires { ⌜ Words g (now elevations) (now work) ⌝ }
     ensures { λ r. ⌜ Numbered g (now (elevations .entry)) (now (work .exit)) 0 0 ⌝ }
 {
@@ -95,7 +94,7 @@ fn number(g: Grid, elevations: &[i16], work: &mut [u32]) -> u32
 // From the flood's words to numbered ponds in the work buffer.
 pub fn find(g: Grid, elevations: &[i16], work: &mut [u32]) -> u32
     requires { ⌜ Sizes g (now elevations) (length (now work)) ⌝ }
-    requires { ⌜ InRange (now elevations) ⌝ }
+    requires { ⌜ SixteenBits (now elevations) ⌝ }
     requires { ⌜ Words g (now elevations) (now work) ⌝ }
     ensures { λ r. ⌜ Numbered g (now (elevations .entry)) (now (work .exit)) (size g) r ⌝ }
 {

@@ -11,14 +11,13 @@ use borrow.Author.Tests.{leb-true, le-leb, lt-leb, eqb-true}
 use Rattle.grid.specs.declared.Grid.{Grid}
 use Rattle.grid.specs.declared.Answer.{Answer}
 use Rattle.grid.specs.declared.Counted.{Counted}
-use Rattle.grid.specs.Sheet.{size, at}
+use Rattle.grid.specs.Sheet.{size, at, SixteenBits}
 use Rattle.grid.specs.Outlet.{firstStranded}
 use Rattle.grid.specs.Fill.{filled}
 use Rattle.grid.specs.Ponds as P
 use Rattle.grid.specs.Checks.{refusal, accepted, ask, isAccepted, ofCounted, allHave, askOutlets, askWork, askReach, pondsCheck}
 use Rattle.grid.specs.Promises.{PondsPromise}
 use Rattle.grid_laws.proofs.Tests.{T-true, cond-true, cond-false}
-use Rattle.grid_laws.proofs.Cells.{InRange}
 use Rattle.checks.proofs.Gate.{Gate, one, both, kept, passed, answered-no, next-no, next-yes}
 use Rattle.checks.proofs.Asked.{Sheets, outlets-gate, one-outlet-result, all-are}
 use Rattle.checks.proofs.Questions.{stranded-≤, reach-no, reach-yes, number-late, yes-is-late}
@@ -75,7 +74,7 @@ module _ (g : Grid) (e : List ℤ) (w : List ℕ) (count : ℕ) (Z : Sizes g e (
 
 -- ---- question 18
 
-module _ (g : Grid) (e : List ℤ) (range : InRange e) (first : ℕ) (place : first ≡ firstStranded g e) where
+module _ (g : Grid) (e : List ℤ) (range : SixteenBits e) (first : ℕ) (place : first ≡ firstStranded g e) where
   pub settled-stranded : {ponds₀ : List ℕ} {level₀ : List ℤ} {cells₀ volume₀ : List ℕ} → first < size g →
       Settled g e ponds₀ ponds₀ level₀ level₀ cells₀ cells₀ volume₀ volume₀ (askReach g e (asked14 g e level₀))
       (record { number = 18; place = first; count = 0 })

@@ -5,6 +5,7 @@ use Prim.Native.Nat.{ℕ}
 use lib.Dec.{T, leb}
 use lib.ListN.{length}
 use lib.IntN.{ℤ}
+use Rattle.grid.specs.Sheet.{SixteenBits}
 use Rattle.grid.specs.declared.Grid.{Grid}
 use Rattle.grid.specs.declared.Answer.{Answer}
 use Rattle.grid.specs.declared.Counted.{Counted}
@@ -12,7 +13,6 @@ use Rattle.grid.specs.Fill.{filled}
 use Rattle.grid.specs.Ponds as P
 use Rattle.grid.specs.Checks.{ask, refusal, accepted, ofCounted, reported}
 use Rattle.grid.specs.Promises.{resultOf, upToNine, pondColumn}
-use Rattle.grid_laws.proofs.Cells.{InRange}
 
 -- question 14
 abbrev pub asked14 : Grid → List ℤ → List ℤ → Answer
@@ -21,7 +21,7 @@ asked14 g e level = ask (leb (P.pondCount g e) (length level)) (refusal 14 (P.po
 -- the answer to what is asked, and the results
 pub record Settled (g : Grid) (e : List ℤ) (ponds₀ ponds₁ : List ℕ) (level₀ level₁ : List ℤ) (cells₀ cells₁ volume₀ volume₁ : List ℕ)
     (asked : Answer) (r : Counted) : Type 0 where
-  pub range : InRange e
+  pub range : SixteenBits e
   pub late : T (upToNine (r .number)) → ⊥
   pub answer : ofCounted r ≡ asked
   pub count : r .count ≡ reported (ofCounted r) (P.pondCount g e)

@@ -4,10 +4,9 @@ use grid::Counted;
 use grid::Grid;
 ghost use mathlib.Core.Path.{_≡_};
 ghost use lib.ListN.{length};
-ghost use Rattle.grid.specs.Sheet.{size};
+ghost use Rattle.grid.specs.Sheet.{size, SixteenBits};
 ghost use Rattle.grid.specs.Checks.{askReach};
 ghost use Rattle.grid.specs.Promises.{PondsPromise};
-ghost use Rattle.grid_laws.proofs.Cells.{InRange};
 ghost use Rattle.fill.specs.Words.{Words};
 ghost use Rattle.pond_numbers.specs.State.{Sizes};
 ghost use Rattle.pond_columns.specs.State.{OneLength};
@@ -26,7 +25,7 @@ fn list_found(
     requires { ⌜ Sizes g (now elevations) (length (now work)) ⌝ }
     requires { ⌜ length (now ponds) ≡ size g ⌝ }
     requires { ⌜ OneLength (now level) (now cells) (now volume) ⌝ }
-    requires { ⌜ InRange (now elevations) ⌝ }
+    requires { ⌜ SixteenBits (now elevations) ⌝ }
     requires { ⌜ Words g (now elevations) (now work) ⌝ }
     ensures { λ r. ⌜ Settled g (now (elevations .entry)) (now (ponds .entry)) (now (ponds .exit)) (now (level .entry)) (now (level .exit))
         (now (cells .entry)) (now (cells .exit)) (now (volume .entry)) (now (volume .exit))

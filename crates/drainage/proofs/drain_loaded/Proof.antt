@@ -7,7 +7,7 @@ use Rattle.grid.specs.Sheet.{size}
 use Rattle.grid.specs.Checks.{accepted}
 use Rattle.checks.proofs.Questions.{reach-yes}
 use Rattle.fill.specs.Words.{sheetIn}
-use Rattle.fill.proofs.Words.{sheet-length, sheet-in-range}
+use Rattle.fill.proofs.Words.{sheet-length, sheet-sixteen}
 use Rattle.drainage.proofs.Four.{stranded-four, four-of-yes}
 use Rattle.drainage.proofs.Steps.{reach, fills, codes-right, routable}
 use borrow.Author.Needs.{needs}
@@ -82,7 +82,7 @@ route-results-requires c κs =
     routable (a .g) (sheetIn n (a .work .now)) (a .filled .now) (fi .last .1 .0) (a .codes .now) (di .last .1 .1 .0)
     (length (a .filled .now)) (length (a .codes .now)) (length (a .counts .now)) (length (a .labels .now)) (length (a .work .now))
     (fi .result) (di .result)
-    (s .pre .0) (sheet-length n (a .work .now)) (sheet-in-range n (a .work .now) (s .pre .1)) (fi .ensures .0) (omega arith)
+    (s .pre .0) (sheet-length n (a .work .now)) (sheet-sixteen n (a .work .now) (s .pre .1)) (fi .ensures .0) (omega arith)
     (fi .ensures .1) (di .ensures .0) (di .ensures .1) (di .last .1 .1 .1 .0)
     (di .kept .1 .1 .1 .0 ∙ fi .kept .1 .1 .0)
 
@@ -115,7 +115,7 @@ returns-2 c =
     let n = size (a .g) in
     let input = sheetIn n (a .work .now) in
     let cells = sheet-length n (a .work .now) in
-    let range = sheet-in-range n (a .work .now) (s .pre .1) in
+    let range = sheet-sixteen n (a .work .now) (s .pre .1) in
     let same = fi .kept .1 .0 in
     let h = e .if1 .left in
     let on =

@@ -6,7 +6,7 @@ use Rattle.grid.specs.Sheet.{size}
 use Rattle.grid_laws.proofs.Tests.{cond-true, cond-false}
 use Rattle.checks.proofs.Questions.{stranded-≤}
 use Rattle.fill.specs.Words.{sheetIn}
-use Rattle.fill.proofs.Words.{sheet-length, sheet-in-range, unloaded-filled}
+use Rattle.fill.proofs.Words.{sheet-length, sheet-sixteen, unloaded-filled}
 use borrow.Author.Needs.{needs}
 use Rattle.fill.proofs.fill_loaded.Statement.{statement}
 use Rattle.fill.proofs.fill_loaded.Tie as tie
@@ -53,7 +53,7 @@ returns-2 c =
     let none : f .result ≡ n = omega arith in (
       first,
       unloaded-filled (a .g) (sheetIn n (a .work .now)) (f .last .1 .0) (sheet-length n (a .work .now))
-          (sheet-in-range n (a .work .now) (s .pre .1 .1 .1 .1)) (f .ensures .1 none)
+          (sheet-sixteen n (a .work .now) (s .pre .1 .1 .1 .1)) (f .ensures .1 none)
           (u .last .1 .1 .0) (u .kept .1 .1 .0 ∙ s .pre .1 .1 .0) (u .ensures)
           ∙ sym (cond-true _ _ (eq-eqb (f .result) n none)),
     )
