@@ -7,8 +7,7 @@ use lib.IntN.{ℤ}
 use lib.ListN.{length, getD, set}
 use Rattle.grid.specs.declared.Grid.{Grid}
 use Rattle.grid.specs.declared.Answer.{Answer}
-use Rattle.grid.specs.Sheet.{at}
-use Rattle.grid.specs.Frames.{lineFeed, toTwos, hexText, headerText, sheetText, resultText, refusalText}
+use Rattle.grid.specs.Frames.{lineFeed, hexText, sheetText, elevationText, resultText, refusalText}
 use Rattle.text_lines.specs.Put.{Put}
 use Rattle.frames.specs.Printed.{Printed, resultLength}
 use Rattle.text_laws.proofs.Runs.{sets-front}
@@ -24,21 +23,22 @@ module _ {a : List ℕ} {n : ℕ} {out₀ out₁ : List ℕ} {j : ℕ} where
         stored = p .stored ∙ sets-front a out₀ (omega arith);
       }
 
--- the bytes of the four sheets, counted row by row
+-- the bytes of one sheet, and of the four, counted row by row
+pub one-room : (r q : ℕ) → 9 + r * (q * 4 + 1) ≡ 9 + r * (4 * q + 1)
+one-room r q = omega arith
+
 room-of : (r q : ℕ) → 9 + r * (q * 4 + 1) + r * (q * 2 + 1) + r * (q * 8 + 1) + r * (q * 8 + 1) ≡ 9 + r * (22 * q + 4)
 room-of r q = omega arith
 
-module _ (g : Grid) (filled : List ℤ) (codes counts labels : List ℕ) {o₀ o₁ o₂ o₃ o₄ o₅ : List ℕ} {n₁ n₂ n₃ n₄ n₅ : ℕ} where
+module _ (g : Grid) (filled : List ℤ) (codes counts labels : List ℕ) {o₀ o₁ o₂ o₃ o₄ : List ℕ} {n₁ n₂ n₃ n₄ : ℕ} where
   pub results-printed : resultLength g ≤ length o₀
-      → Put (headerText g) 9 0 o₀ o₁ n₁
-      → Put (sheetText g 4 (λ c. toTwos (at filled c))) (g .rows * (g .cols * 4 + 1)) n₁ o₁ o₂ n₂
-      → Put (sheetText g 2 (λ c. getD codes c 0)) (g .rows * (g .cols * 2 + 1)) n₂ o₂ o₃ n₃
-      → Put (sheetText g 8 (λ c. getD counts c 0)) (g .rows * (g .cols * 8 + 1)) n₃ o₃ o₄ n₄
-      → Put (sheetText g 8 (λ c. getD labels c 0)) (g .rows * (g .cols * 8 + 1)) n₄ o₄ o₅ n₅
-      → Printed (resultText g filled codes counts labels) o₀ o₅ n₅
+      → Put (elevationText g filled) (9 + g .rows * (g .cols * 4 + 1)) 0 o₀ o₁ n₁
+      → Put (sheetText g 2 (λ c. getD codes c 0)) (g .rows * (g .cols * 2 + 1)) n₁ o₁ o₂ n₂
+      → Put (sheetText g 8 (λ c. getD counts c 0)) (g .rows * (g .cols * 8 + 1)) n₂ o₂ o₃ n₃
+      → Put (sheetText g 8 (λ c. getD labels c 0)) (g .rows * (g .cols * 8 + 1)) n₃ o₃ o₄ n₄
+      → Printed (resultText g filled codes counts labels) o₀ o₄ n₄
   unfolding resultText
-  results-printed h a b c d e =
-      put-printed (omega (arith, room-of (g .rows) (g .cols))) (put-put (put-put (put-put (put-put a b) c) d) e)
+  results-printed h a b c d = put-printed (omega (arith, room-of (g .rows) (g .cols))) (put-put (put-put (put-put a b) c) d)
 
 -- "FF, the number in 2 digits, the place in 8, all on one line"
 module _ (answer : Answer) {o₀ o₁ o₂ o₃ : List ℕ} {n₁ n₂ n₃ : ℕ} where

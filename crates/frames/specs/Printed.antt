@@ -6,11 +6,19 @@ use lib.IntN.{ℤ}
 use lib.ListN.{length, drop}
 use Rattle.grid.specs.declared.Grid.{Grid}
 use Rattle.grid.specs.Sheet.{size}
+use Rattle.grid.specs.Frames.{textLength}
 
 -- a whole output: `text` at the front of the buffer, its length handed back, places past it untouched
 pub record Printed (text out₀ out₁ : List ℕ) (written : ℕ) : Type 0 where
   pub length-of-text : written ≡ length text
   pub stored : out₁ ≡ text ++ drop (length text) out₀
+
+-- a sheet of elevations of g's size, and room for it as text
+pub record Sheet (g : Grid) (elevations : List ℤ) (out : List ℕ) : Type 0 where
+  pub few-rows : g .rows ≤ 4000
+  pub few-cols : g .cols ≤ 4000
+  pub elevations-size : length elevations ≡ size g
+  pub room : textLength g ≤ length out
 
 -- the bytes of the header and of the four sheets: 4 + 2 + 8 + 8 digits for each cell and four line feeds for each row
 abbrev pub resultLength : Grid → ℕ

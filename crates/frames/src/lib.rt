@@ -1,11 +1,12 @@
-// "The frames", printing: the four results of a sheet as upper-case text at the front of a lent buffer (header, filled rows, codes,
-// counts, labels), and the line of a refusal. What is stored is the definition's text, byte for byte, and the bytes past it are untouched:
+// "The frames", printing, as upper-case text at the front of a lent buffer: an elevation sheet (header, rows), the four results of a sheet
+// (the same with the filled sheet, then codes, counts, labels), and the line of a refusal. What is stored is the definition's text, byte for byte, and the bytes past it are untouched:
 // one run of stores after the other is one run.
-ghost use Prim.Native.Nat.{_≤_};
+ghost use Prim.Native.Nat.{_+_, _*_, _≤_};
 ghost use lib.ListN.{length};
-ghost use Rattle.grid.specs.Frames.{headerText, resultText, refusalText};
+ghost use Rattle.grid.specs.Sheet.{SixteenBits};
+ghost use Rattle.grid.specs.Frames.{headerText, elevationText, resultText, refusalText};
 ghost use Rattle.text_lines.specs.Put.{Put};
-ghost use Rattle.frames.specs.Printed.{Printed, Sheets};
+ghost use Rattle.frames.specs.Printed.{Printed, Sheet, Sheets};
 use grid::Answer;
 use grid::Grid;
 use text_lines::codes_sheet;
@@ -25,6 +26,17 @@ fn header(g: Grid, out: &mut [u8]) -> usize
     next + 1
 }
 
+// "the frames of an elevation sheet"
+pub fn write_elevations(g: Grid, elevations: &[i16], out: &mut [u8]) -> usize
+    requires { ⌜ Sheet g (now elevations) (now out) ⌝ }
+    ensures { λ r. ⌜ Put (elevationText g (now (elevations .entry))) (9 + g .rows * (g .cols * 4 + 1)) 0 (now (out .entry))
+        (now (out .exit)) r ⌝ }
+    ensures { λ r. ⌜ SixteenBits (now (elevations .entry)) ⌝ }
+{
+    let rows = header(g, out);
+    elevations_sheet(g, elevations, out, rows)
+}
+
 // "header, filled rows (4 digits a cell), codes (2), counts (8), labels (8)"
 pub fn write_results(
     g: Grid,
@@ -38,8 +50,7 @@ pub fn write_results(
     ensures { λ r. ⌜ Printed (resultText g (now (filled .entry)) (now (codes .entry)) (now (counts .entry)) (now (labels .entry)))
         (now (out .entry)) (now (out .exit)) r ⌝ }
 {
-    let rows = header(g, out);
-    let after_filled = elevations_sheet(g, filled, out, rows);
+    let after_filled = write_elevations(g, filled, out);
     let after_codes = codes_sheet(g, codes, out, after_filled);
     let after_counts = numbers_sheet(g, counts, out, after_codes);
     numbers_sheet(g, labels, out, after_counts)

@@ -15,7 +15,8 @@ use Rattle.grid.specs.Routes.{counts, labels}
 use Rattle.grid.specs.Ponds.{ponds, pondCount, pondLevel, pondCells, pondVolume}
 use Rattle.grid.specs.Culvert.{opened}
 use Rattle.grid.specs.Checks.{accepted, askSize, fillCheck, directionsCheck, drainCheck, codesCheck, pondsCheck, culvertCheck}
-use Rattle.grid.specs.Frames.{programText}
+use Rattle.grid.specs.Frames.{textSheet, elevationText, programText}
+use Rattle.grid.specs.Writing.{writeCheck, raised}
 
 pub data Case : Type 0 where
   numbers : List ℕ → List ℕ → Case
@@ -144,6 +145,26 @@ cut =
 eastward : Grid
 eastward = closedGrid 3 4 13
 
+-- 2 by 2: the void, −1, 2,571 and the largest elevation, read from text with letters of both cases
+corners : List ℤ
+corners =
+    negsuc 32767 ∷ negsuc 0 ∷
+    pos 2571 ∷ pos 32767 ∷ []
+
+-- 00020002, 8000fFfF, 0a0B7fff
+corners-read : List ℕ
+corners-read =
+    48 ∷ 48 ∷ 48 ∷ 50 ∷ 48 ∷ 48 ∷ 48 ∷ 50 ∷ 10 ∷
+    56 ∷ 48 ∷ 48 ∷ 48 ∷ 102 ∷ 70 ∷ 102 ∷ 70 ∷ 10 ∷
+    48 ∷ 97 ∷ 48 ∷ 66 ∷ 55 ∷ 102 ∷ 102 ∷ 102 ∷ 10 ∷ []
+
+-- 00020002, 8000FFFF, 0A0B7FFF
+corners-written : List ℕ
+corners-written =
+    48 ∷ 48 ∷ 48 ∷ 50 ∷ 48 ∷ 48 ∷ 48 ∷ 50 ∷ 10 ∷
+    56 ∷ 48 ∷ 48 ∷ 48 ∷ 70 ∷ 70 ∷ 70 ∷ 70 ∷ 10 ∷
+    48 ∷ 65 ∷ 48 ∷ 66 ∷ 55 ∷ 70 ∷ 70 ∷ 70 ∷ 10 ∷ []
+
 numberAndPlace : Answer → List ℕ
 numberAndPlace a = a .number ∷ a .place ∷ []
 
@@ -151,6 +172,11 @@ numberAndPlace a = a .number ∷ a .place ∷ []
 culvertIn : ℕ → ℤ → ℕ → List ℕ
 unfolding numberAndPlace
 culvertIn cell level work = numberAndPlace (culvertCheck (gridOf 3 5) bank cell level 15 15 15 15 work)
+
+-- for a sheet of this many rows, columns and elevations, and a buffer of this length
+writeIn : ℕ → ℕ → ℕ → ℕ → List ℕ
+unfolding numberAndPlace
+writeIn rows cols given room = numberAndPlace (writeCheck (gridOf rows cols) given room)
 
 basinCodes : List ℕ
 basinCodes = directions (gridOf 5 5) basin
@@ -165,8 +191,8 @@ eastwardCodes = directions eastward (filled eastward cut)
 -- ---- the table
 
 unfoldable pub knownGround : List Case
-unfolding printed-input printed-output voids between middle basin hole pools poolNumbers bank opened-bank cut eastward numberAndPlace
-    culvertIn basinCodes openedCodes eastwardCodes
+unfolding printed-input printed-output voids between middle basin hole pools poolNumbers bank opened-bank cut eastward corners
+    corners-read corners-written numberAndPlace culvertIn writeIn basinCodes openedCodes eastwardCodes
 knownGround =
     -- P1: the printed example, from text to text
     numbers (programText printed-input) printed-output
@@ -243,6 +269,22 @@ knownGround =
     ∷ numbers (numberAndPlace (culvertCheck (closedGrid 3 4 15) cut 7 (pos 6) 12 12 12 12 48)) (16 ∷ 7 ∷ [])
     ∷ numbers (numberAndPlace (fillCheck (closedGrid 3 5 16) cut 0 0)) (17 ∷ 0 ∷ [])
     ∷ numbers (numberAndPlace (fillCheck (closedGrid 3 0 16) cut 0 0)) (6 ∷ 0 ∷ [])
+    -- a text: what is read from it, what is written, closed sides or not, and the same with its letters raised
+    ∷ elevations (textSheet corners-read) corners
+    ∷ numbers (elevationText (gridOf 2 2) corners) corners-written
+    ∷ numbers (elevationText (closedGrid 2 2 15) corners) corners-written
+    ∷ numbers (map raised corners-read) corners-written
+    -- the writer: a buffer one byte short gets 8, a sheet of the wrong length 7 before it; 4 comes before 5 and 6, however large
+    ∷ numbers (writeIn 2 2 4 27) (0 ∷ 0 ∷ [])
+    ∷ numbers (writeIn 2 2 4 26) (8 ∷ 0 ∷ [])
+    ∷ numbers (writeIn 2 2 5 26) (7 ∷ 0 ∷ [])
+    ∷ numbers (writeIn 5000 1 5000 11529) (4 ∷ 0 ∷ [])
+    ∷ numbers (writeIn 65536 65536 0 0) (4 ∷ 0 ∷ [])
+    ∷ numbers (writeIn 0 9 0 0) (5 ∷ 0 ∷ [])
+    ∷ numbers (writeIn 2304 0 0 0) (6 ∷ 0 ∷ [])
+    ∷ numbers (writeIn 48 48 2304 9273) (0 ∷ 0 ∷ [])
+    ∷ numbers (writeIn 2304 1 2304 11529) (0 ∷ 0 ∷ [])
+    ∷ numbers (writeIn 2305 1 2305 11534) (4 ∷ 0 ∷ [])
     -- "Rows 4,000 passes, 4,001 gets 5. Codes 2 and 32 side by side, facing each other, get 12"
     ∷ numbers ((askSize (gridOf 4000 1) accepted) .number ∷ []) (0 ∷ [])
     ∷ numbers ((askSize (gridOf 4001 1) accepted) .number ∷ []) (5 ∷ [])

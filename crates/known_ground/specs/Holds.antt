@@ -15,7 +15,9 @@ use Rattle.grid.specs.Culvert.{opened, isLevelFor}
 use Rattle.grid.specs.Checks.{inRange, askSize, allHave, askLengths, askSides, askSheets, askOutlets, askWork, askReach, askCodes}
 use Rattle.grid.specs.Checks.{askCulvert, fillCheck, directionsCheck, codesCheck, drainCheck, pondsCheck, culvertCheck}
 use Rattle.grid.specs.Frames.{hexValue, isTextByte, number4, textGrid, endsLine, isShaped, firstBadByte, readCheck, fromTwos, toTwos}
-use Rattle.grid.specs.Frames.{textSheet, upperDigit, hexText, sheetText, headerText, resultText, refusalText, drainText, programText}
+use Rattle.grid.specs.Frames.{textSheet, upperDigit, hexText, sheetText, headerText, elevationText, resultText, refusalText, drainText}
+use Rattle.grid.specs.Frames.{programText}
+use Rattle.grid.specs.Writing.{writeCheck, raised}
 use Rattle.known_ground.specs.Cases.{allHold, knownGround}
 
 pub known-ground : allHold knownGround ≡ true
@@ -26,6 +28,6 @@ unfolding allHold knownGround table anyBelow sumBelow countBelow firstBelow join
     firstBadCode firstEndless joinPass joinPasses joined isWet pondOf lowestCell isLowest ponds pondCount natural depth pondLevel
     pondCells pondVolume opened isLevelFor inRange askSize allHave askLengths askSides askSheets askOutlets askWork askReach askCodes
     fillCheck directionsCheck codesCheck drainCheck pondsCheck askCulvert culvertCheck hexValue isTextByte number4 textGrid endsLine
-    isShaped firstBadByte readCheck fromTwos toTwos textSheet upperDigit hexText sheetText headerText resultText refusalText drainText
-    programText
+    isShaped firstBadByte readCheck fromTwos toTwos textSheet upperDigit hexText sheetText headerText elevationText resultText
+    refusalText drainText programText writeCheck raised
 known-ground = refl

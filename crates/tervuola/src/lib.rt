@@ -7,7 +7,7 @@ use grid::Dimensions;
 use grid::Grid;
 ghost use Rattle.grid.specs.Sheet.{gridOf, closedGrid};
 ghost use Rattle.grid.specs.Promises.{CountsPromise, CulvertPromise, DirectionsPromise, DrainPromise, FillPromise, LabelsPromise};
-ghost use Rattle.grid.specs.Promises.{PondsPromise, PourPointsPromise, ReadPromise, StartsPromise, WatershedsPromise};
+ghost use Rattle.grid.specs.Promises.{PondsPromise, PourPointsPromise, ReadPromise, StartsPromise, WatershedsPromise, WritePromise};
 
 // Elevations to the filled sheet.
 #[no_mangle]
@@ -251,4 +251,22 @@ pub extern "C" fn tervuola_read(text: &[u8], elevations: &mut [i16]) -> Dimensio
     ensures { λ r. ⌜ ReadPromise (now (text .entry)) (now (elevations .entry)) (now (elevations .exit)) r ⌝ }
 {
     reader::read(text, elevations)
+}
+
+// Rows, columns and elevations to a text frame.
+#[no_mangle]
+pub extern "C" fn tervuola_write(
+    rows: u32,
+    cols: u32,
+    elevations: &[i16],
+    text: &mut [u8],
+) -> Counted
+    ensures { λ r. ⌜ WritePromise (gridOf rows cols) (now (elevations .entry)) (now (text .entry)) (now (text .exit)) r ⌝ }
+{
+    let g = Grid {
+        rows: rows as usize,
+        cols: cols as usize,
+        sides: 0,
+    };
+    writer::write(g, elevations, text)
 }

@@ -3,7 +3,7 @@ use mathlib.Core.Path.{_≡_, refl, sym, ap, _∙_}
 use mathlib.Core.Bool.{Bool, true, false, not, cond, _&&_}
 use mathlib.Core.List.{List}
 use mathlib.Core.Logic.{_⊎_, inl, inr, ⊎-elim}
-use Prim.Native.Nat.{ℕ, _+_, _-_, _*_, _%_, _≤_, _<_}
+use Prim.Native.Nat.{ℕ, _+_, _-_, _*_, _≤_, _<_}
 use native.Mathlib.Nat.{mul-le-mul}
 use native.Mathlib.Omega.{arith}
 use lib.Dec.{eqb}
@@ -38,18 +38,6 @@ no-bad-byte text i e h =
     e ∙ sym (first-none (length text) (λ k. not (isTextByte (getD text k 0))) (λ k m. ap not (h k (omega arith))))
 
 -- ---- question 3
-
-pub header-ends : (cols i : ℕ) → i ≡ 8 → endsLine cols i ≡ true
-unfolding endsLine
-header-ends cols i e = rw (eq-eqb i 8 e)
-
-pub in-header : (cols i : ℕ) → (i ≡ 8 → ⊥) → i < 9 → endsLine cols i ≡ false
-unfolding endsLine
-in-header cols i n h = rw (ne-eqb i 8 n, lt-leb 9 i h)
-
-pub in-lines : (cols i : ℕ) → 9 ≤ i → endsLine cols i ≡ eqb ((i - 9) % (4 * cols + 1)) (4 * cols)
-unfolding endsLine
-in-lines cols i h = rw (ne-eqb i 8 (λ e. omega arith), le-leb 9 i h)
 
 pub placed-feed : (cols b i : ℕ) → b ≡ 10 → isPlaced cols b i ≡ endsLine cols i
 unfolding isPlaced

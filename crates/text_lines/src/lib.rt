@@ -1,13 +1,16 @@
 // "The frames", printing, part by part: a number in digits, a line of cells, a sheet of lines, each stored in a lent buffer from a place
 // on, with the next place handed on. The contract of each says which run of bytes is stored (`Put`), so a line is the join of its cells
-// and a sheet the join of its lines, as in the definition of the text.
+// and a sheet the join of its lines, as in the definition of the text. What a lent slice of elevations holds are numbers of 16 bits; the
+// steps that read them say so.
 ghost use mathlib.Core.Path.{_≡_};
 ghost use Prim.Native.Nat.{_+_, _*_, _<_, _≤_};
 ghost use lib.ListN.{length, getD};
-ghost use Rattle.grid.specs.Sheet.{size, at};
+ghost use lib.Signed.{_≤ℤ_};
+ghost use Rattle.grid.specs.Sheet.{size, void, top, at, SixteenBits};
 ghost use Rattle.grid.specs.Frames.{upperDigit, toTwos, hexText, sheetText};
 ghost use Rattle.text_laws.proofs.Digits.{lineText};
 ghost use Rattle.text_lines.specs.Put.{Put};
+ghost use Rattle.text_lines.specs.Sixteen.{SixteenFrom};
 use grid::Grid;
 
 // an upper-case digit
@@ -46,6 +49,7 @@ fn twos(e: i16) -> u32
 fn twos_at(elevations: &[i16], c: usize) -> u32
     requires { ⌜ c < length (now elevations) ⌝ }
     ensures { λ r. ⌜ r ≡ toTwos (at (now (elevations .entry)) c) ⌝ }
+    ensures { λ r. ⌜ (void ≤ℤ at (now (elevations .entry)) c) × (at (now (elevations .entry)) c ≤ℤ top) ⌝ }
 {
     twos(elevations[c])
 }
@@ -56,6 +60,7 @@ fn elevations_line(elevations: &[i16], c: usize, cols: usize, out: &mut [u8], fr
     requires { ⌜ (c + cols ≤ length (now elevations)) × (from + (cols * 4 + 1) ≤ length (now out)) ⌝ }
     ensures { λ r. ⌜ Put (lineText cols 4 (λ i. toTwos (at (now (elevations .entry)) i)) c) (cols * 4 + 1) from (now (out .entry))
         (now (out .exit)) r ⌝ }
+    ensures { λ r. ⌜ SixteenFrom (now (elevations .entry)) c cols ⌝ }
 {
     let mut next = from;
     let mut q = 0;
@@ -110,6 +115,7 @@ pub fn elevations_sheet(g: Grid, elevations: &[i16], out: &mut [u8], from: usize
     requires { ⌜ (length (now elevations) ≡ size g) × (from + g .rows * (g .cols * 4 + 1) ≤ length (now out)) ⌝ }
     ensures { λ r. ⌜ Put (sheetText g 4 (λ i. toTwos (at (now (elevations .entry)) i))) (g .rows * (g .cols * 4 + 1)) from
         (now (out .entry)) (now (out .exit)) r ⌝ }
+    ensures { λ r. ⌜ SixteenBits (now (elevations .entry)) ⌝ }
 {
     let rows = g.rows;
     let cols = g.cols;

@@ -1,6 +1,6 @@
 -- `text_checks::ends_line`: the end of the header, within it, and past it.
 use mathlib.Core.Path.{sym}
-use Rattle.text_checks.proofs.Bytes.{header-ends, in-header, in-lines}
+use Rattle.text_laws.proofs.Ends.{header-ends, in-header, in-lines}
 use borrow.Author.Needs.{needs}
 use Rattle.text_checks.proofs.ends_line.Statement.{statement}
 use Rattle.text_checks.proofs.ends_line.Tie as tie

@@ -1,10 +1,12 @@
 -- `text_lines::elevations_line`: q cells of the line are stored, and then its line feed.
-use mathlib.Core.Path.{_≡_}
+use mathlib.Core.Path.{_≡_, refl}
 use Prim.Native.Nat.{_-_, _≤_}
 use native.Mathlib.Omega.{arith}
 use lib.ListN.{length-set}
 use Rattle.grid.specs.Sheet.{at}
 use Rattle.grid.specs.Frames.{toTwos}
+use Rattle.text_lines.specs.Sixteen.{SixteenFrom}
+use Rattle.text_lines.proofs.Sixteen.{none-read, one-read, more-read}
 use Rattle.text_lines.proofs.Lines.{CellsTo, cells-none, cells-more, cells-end}
 use Rattle.text_lines.proofs.elevations_line.Statement.{statement}
 use Rattle.text_lines.proofs.elevations_line.Tie as tie
@@ -15,13 +17,13 @@ use Rattle.text_lines.proofs.twos_at.Reads as twos-at-reads
 
 abbrev Inv-loop : tie.InvT-loop
 Inv-loop elevations c cols out₀ from next₀ q₀ out next q =
-    (q ≤ cols) × CellsTo 4 (λ i. toTwos (at elevations i)) c out₀ from out next q
+    (q ≤ cols) × CellsTo 4 (λ i. toTwos (at elevations i)) c out₀ from out next q × SixteenFrom elevations c q
 
 abbrev μ-loop : tie.MeasureT-loop
 μ-loop elevations c cols out₀ from next₀ q₀ out next q = cols - q
 
 loop-holds : tie.Need-loop-holds Inv-loop μ-loop
-loop-holds c = (omega arith, cells-none 4 _ _ _ _)
+loop-holds c = (omega arith, cells-none 4 _ _ _ _, none-read)
 
 add-twos-at : tie.Need-add-twos-at Inv-loop μ-loop
 add-twos-at c = omega arith
@@ -40,10 +42,11 @@ loop-less c = omega arith
 
 loop-again : tie.Need-loop-again Inv-loop μ-loop
 loop-again c =
-    let l = c .before .before .before .before .before .before .loop in (
+    let l = c .before .before .before .before .before .before .loop in
+    let read = c .before .before .before .before .twos-at .ensures in (
       omega arith,
-      cells-more 4 _ _ _ _ _ (l .inv .1) (c .before .before .before .before .twos-at .ensures)
-          (c .before .before .put-hex .ensures),
+      cells-more 4 _ _ _ _ _ (l .inv .1) (read .0) (c .before .before .put-hex .ensures),
+      more-read refl (l .inv .2) (one-read (read .1)),
     )
 
 slice-write-out : tie.Need-slice-write-out Inv-loop μ-loop
@@ -60,7 +63,7 @@ returns c =
     let l = c .before .loop in
     let s = c .before .before .before .args in
     let e : l .q ≡ s .cols = omega arith in
-    cells-end 4 _ _ _ _ (rw e at (l .inv .1))
+    (cells-end 4 _ _ _ _ (rw e at (l .inv .1)), rw e at (l .inv .2))
 
 pub elevations-line-spec : {M : Type 1} → statement M
 elevations-line-spec =

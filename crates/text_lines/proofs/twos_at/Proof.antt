@@ -6,8 +6,11 @@ use mir.Val.{toZ, ofZ}
 use native.Mathlib.Omega.{arith}
 use lib.IntN.{pos}
 use lib.ListN.{getD}
+use lib.Signed.{_≤ℤ_}
 use borrow.Author.Needs.{needs, sfits-of}
+use Rattle.grid.specs.Sheet.{void, top}
 use Rattle.grid.specs.Frames.{toTwos}
+use Rattle.grid_laws.proofs.Cells.{word-void, word-top}
 use Rattle.text_laws.proofs.Words.{at-any}
 use Rattle.text_lines.proofs.twos_at.Statement.{statement}
 use Rattle.text_lines.proofs.twos_at.Tie as tie
@@ -24,9 +27,12 @@ twos-requires c κs = search needs
 returns : tie.Need-returns
 returns c =
     let s = c .before .before .args in
-    let e : toZ w16 (ofZ w16 (getD (s .elevations .now) (s .c) (pos 0))) ≡ getD (s .elevations .now) (s .c) (pos 0) =
-    toZ-ofZ (sfits-of (c .before .twos-arg .given)) in
-    c .twos .ensures ∙ ap toTwos (e ∙ at-any (s .elevations .now) (s .c) (pos 0) (omega arith))
+    let x = getD (s .elevations .now) (s .c) (pos 0) in
+    let h = sfits-of (c .before .twos-arg .given) in
+    let e : toZ w16 (ofZ w16 x) ≡ x = toZ-ofZ h in
+    let q = at-any (s .elevations .now) (s .c) (pos 0) (omega arith) in
+    let b : (void ≤ℤ x) × (x ≤ℤ top) = (word-void x (h .sfits), word-top x (h .sfits)) in
+    (c .twos .ensures ∙ ap toTwos (e ∙ q), rw q at b)
 
 pub twos-at-spec : {M : Type 1} → statement M
 twos-at-spec = tie.close (tie.spec mul-twos shared-slice-copy-out-twos twos-requires returns)

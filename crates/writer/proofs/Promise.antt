@@ -1,0 +1,116 @@
+-- The questions in order, and the promise beside a no and after the last yes.
+use mathlib.Core.Path.{_≡_, refl, sym, _∙_, ap, ap₂, subst}
+use mathlib.Core.Bool.{true, false}
+use mathlib.Core.List.{List, [], _∷_}
+use Prim.Native.Nat.{ℕ, _+_, _*_, _/_, _≤_, _<_}
+use native.Mathlib.Nat.{mul-comm, zero-mul, mul-le-mul, le-div-iff-mul-le}
+use native.Mathlib.Omega.{arith}
+use lib.Dec.{leb}
+use lib.IntN.{ℤ}
+use lib.ListN.{length, take}
+use lib.Seq.{take-append-seam}
+use mir.Syntax.{w32}
+use mir.Val.{Fits as UFits}
+use borrow.Author.Tests.{le-leb, lt-leb, leb-true}
+use Rattle.grid.specs.declared.Grid.{Grid}
+use Rattle.grid.specs.declared.Answer.{Answer}
+use Rattle.grid.specs.Sheet.{size, SixteenBits}
+use Rattle.grid.specs.Checks.{refusal, accepted, ask, askSheets}
+use Rattle.grid.specs.Frames.{textLength, elevationText}
+use Rattle.grid.specs.Writing.{writeCheck, ReadsAs}
+use Rattle.grid.specs.Promises.{WritePromise}
+use Rattle.grid_laws.proofs.Tests.{cond-true, cond-false, same-test}
+use Rattle.checks.specs.Sizes.{Fits}
+use Rattle.checks.proofs.Gate.{kept, passed, answered-no, is-accepted, next-no, next-yes}
+use Rattle.checks.proofs.Asked.{same-lists, have-again}
+use Rattle.text_lines.specs.Put.{Put}
+use Rattle.frames.specs.Printed.{Printed, Sheet}
+use Rattle.frames.proofs.Outputs.{put-printed, one-room}
+use Rattle.writing_laws.proofs.Gates.{Sized, number-zero, before-room, sized, write-passes}
+use Rattle.writing_laws.proofs.Written.{reads-as}
+
+-- ---- 4
+
+-- no product is asked for
+pub no-rows : (g : Grid) → g .rows ≡ 0 → leb (size g) 2304 ≡ true
+no-rows g e = rw (e, zero-mul (g .cols)) refl
+
+pub by-quotient : (g : Grid) → (g .rows ≡ 0 → ⊥) → leb (g .cols) (2304 / g .rows) ≡ leb (size g) 2304
+by-quotient g n =
+    same-test _ _
+    (λ e. let q = le-div-iff-mul-le {k = g .rows} {x = g .cols} {y = 2304} (omega arith) .0 (leb-true (g .cols) (2304 / g .rows) e) in
+    le-leb (size g) 2304 (omega (arith, q, mul-comm (g .cols) (g .rows))))
+    (λ e. le-leb (g .cols) (2304 / g .rows)
+    (le-div-iff-mul-le {k = g .rows} {x = g .cols} {y = 2304} (omega arith) .1
+    (omega (arith, leb-true (size g) 2304 e, mul-comm (g .cols) (g .rows)))))
+
+-- ---- 5 to 8
+
+module _ (g : Grid) (given room : ℕ) where
+  pub too-many : leb (size g) 2304 ≡ false → refusal 4 0 ≡ writeCheck g given room
+  unfolding writeCheck
+  too-many n = sym (cond-false _ _ n)
+
+  module _ (few : leb (size g) 2304 ≡ true) (answer : Answer) (is : answer ≡ askSheets g (given ∷ given ∷ []) [] accepted) where
+    asked : answer ≡ ask (leb (size g) 2304) (refusal 4 0) (askSheets g (given ∷ []) [] accepted)
+    asked =
+        is ∙ same-lists g (given ∷ given ∷ []) (given ∷ []) [] [] accepted (have-again (size g) given []) refl ∙ sym (cond-true _ _ few)
+
+    pub no-size : (answer .number ≡ 0 → ⊥) → answer ≡ writeCheck g given room
+    unfolding writeCheck
+    no-size n = answered-no (before-room g given) asked n (ask (leb (textLength g) room) (refusal 8 0) accepted)
+
+    module _ (z : answer .number ≡ 0) where
+      pub fits : Fits g
+      fits = passed (before-room g given) asked z .fact .1 .fits
+
+      pub too-short : room < textLength g → refusal 8 0 ≡ writeCheck g given room
+      unfolding writeCheck
+      too-short h = next-no (before-room g given) asked z (refusal 8 0) accepted (lt-leb (textLength g) room h)
+
+      pub all-yes : textLength g ≤ room → answer ≡ writeCheck g given room
+      unfolding writeCheck
+      all-yes h =
+          is-accepted (before-room g given) asked z
+          ∙ next-yes (before-room g given) asked z (refusal 8 0) accepted (le-leb (textLength g) room h)
+
+-- the length of a text fits a word
+pub text-small : (g : Grid) → g .rows ≤ 4000 → g .cols ≤ 4000 → g .rows * (4 * g .cols + 1) ≤ 64004000
+text-small g r c =
+    let l : 4 * g .cols + 1 ≤ 16001 = omega arith in
+    omega (arith, mul-le-mul r l)
+
+-- ---- the promise
+
+module _ (g : Grid) (e : List ℤ) (text₀ : List ℕ) (answer : Answer) (is : answer ≡ writeCheck g (length e) (length text₀)) where
+  pub refused : (answer .number ≡ 0 → ⊥) → WritePromise g e text₀ text₀ record { number = answer .number; place = answer .place; count = 0 }
+  refused n = record { answer = is; count = kept n _; result = kept n _; reads-back = λ t. absurd (n (number-zero answer t)) }
+
+  pub all-sized : answer .number ≡ 0 → Sized g (length e) (length text₀)
+  all-sized z = sized g (length e) (length text₀) (ap (λ (a : Answer). a .number) (sym is) ∙ z)
+
+  pub printable : answer .number ≡ 0 → Sheet g e text₀
+  printable z =
+      let s = all-sized z in
+      record { few-rows = s .fits .rows-high; few-cols = s .fits .cols-high; elevations-size = s .long; room = s .room-for }
+
+  module _ (z : answer .number ≡ 0) {text₁ : List ℕ} {n : ℕ}
+      (put : Put (elevationText g e) (9 + g .rows * (g .cols * 4 + 1)) 0 text₀ text₁ n) where
+    pub count-fits : UFits w32 n
+    count-fits =
+        let s = all-sized z in
+        record { fits = omega (arith, put .next-place, one-room (g .rows) (g .cols), text-small g (s .fits .rows-high) (s .fits .cols-high)) }
+
+    pub written : SixteenBits e → WritePromise g e text₀ text₁ record { number = 0; place = 0; count = n }
+    written bits =
+        let s = all-sized z in
+        let room = s .room-for in
+        let p : Printed (elevationText g e) text₀ text₁ n = put-printed (omega (arith, one-room (g .rows) (g .cols))) put in
+        record {
+          answer = sym (write-passes g (length e) (length text₀) s);
+          count = p .length-of-text;
+          result = p .stored;
+          reads-back = λ _.
+              subst (λ (t : List ℕ). ReadsAs t g e)
+              (sym (ap₂ take (p .length-of-text) (p .stored) ∙ take-append-seam (elevationText g e) _)) (reads-as g e bits s);
+        }
