@@ -43,7 +43,7 @@
 #include <stdint.h>
 
 #define TERVUOLA_VERSION_MAJOR 0
-#define TERVUOLA_VERSION_MINOR 5
+#define TERVUOLA_VERSION_MINOR 6
 #define TERVUOLA_VERSION_PATCH 0
 
 /* The void mark, and the eight direction codes. */
@@ -83,12 +83,12 @@ enum tervuola_number {
     TERVUOLA_TEXT_TOO_LONG = 1,   /* the text has more than 11,529 bytes */
     TERVUOLA_BAD_BYTE = 2,        /* a byte is no hexadecimal digit and no line feed; place: the first such byte, from 0 */
     TERVUOLA_BAD_SHAPE = 3,       /* the text is not a header line and rows lines of 4 digits a column, each ended by a line feed */
-    TERVUOLA_TOO_MANY_CELLS = 4,  /* a text with more than 2,304 cells */
+    TERVUOLA_TOO_MANY_CELLS = 4,  /* a sheet read from text, or written as text, has more than 2,304 cells */
     TERVUOLA_BAD_ROWS = 5,        /* rows not from 1 to 4,000 */
     TERVUOLA_BAD_COLS = 6,        /* columns not from 1 to 4,000 */
     TERVUOLA_BAD_INPUT = 7,       /* an input sheet has not rows * columns elements */
-    TERVUOLA_BAD_RESULT = 8,      /* a result sheet has not rows * columns elements (one read from text: has fewer), or the
-                                     columns have unlike lengths */
+    TERVUOLA_BAD_RESULT = 8,      /* a result sheet has not rows * columns elements (one read from text: has fewer), the columns
+                                     have unlike lengths, or a text does not fit its buffer */
     TERVUOLA_SHORT_WORK = 9,      /* the work buffer has fewer than 4 * rows * columns elements */
     TERVUOLA_NO_LEVEL = 10,       /* a data cell has no way down; place: the first such cell */
     TERVUOLA_BAD_CODE = 11,       /* a code is neither 0 nor one of the eight; place: the first such cell */
@@ -294,6 +294,18 @@ tervuola_counted tervuola_pour_points(uint32_t rows, uint32_t cols,
  */
 tervuola_dimensions tervuola_read(const uint8_t *text, size_t text_len,
                                   int16_t *elevations, size_t elevations_len);
+
+/*
+ * Writes an elevation sheet as a text frame: upper-case digits and nothing optional, so that two sheets have equal text exactly
+ * when rows, columns and all elevations are equal. Closed sides are no part of the text. tervuola_read gives back what was
+ * written; written again, a text that was read has its letters raised to upper case. Reports the bytes written,
+ * 9 + rows * (4 * cols + 1); bytes past them are untouched, and no zero byte ends them.
+ * elevations: rows * cols. text: at least so many bytes; TERVUOLA_TEXT_BYTES always suffice.
+ * Numbers: 4 5 6 7 8 (text is too short). Promise: WritePromise; what is shown of texts: Writing.antt, RoundTrips.antt.
+ */
+tervuola_counted tervuola_write(uint32_t rows, uint32_t cols,
+                                const int16_t *elevations, size_t elevations_len,
+                                uint8_t *text, size_t text_len);
 
 #ifdef __cplusplus
 }

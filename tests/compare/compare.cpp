@@ -1,5 +1,6 @@
-// Every call of libtervuola.a against the second program as it is after request 4, on its sheets, on sheets of ponds, on sheets cut from
-// larger ones, under all closed sides, on random codes, on cells and levels that are and are not there, and on wrong lengths.
+// Every call of libtervuola.a against the second program as it is after request 5, on its sheets, on sheets of ponds, on sheets cut from
+// larger ones, under all closed sides, on random codes, on cells and levels that are and are not there, on damaged texts, and on wrong lengths.
+// What is written is read again, and what is read is written again.
 //   compare ROUNDS [SEED]      sheets up to 5 by 5, each size under each number of closed sides; then ROUNDS of sheets up to 40 by 40
 //   compare big KIND SIDE      one large sheet, by the second program's fast layer
 // A result buffer is lent with guard elements on both sides, and holds a pattern before the call; a no must leave it, and the work buffer
@@ -99,6 +100,8 @@ template <class T> static V<T> resized(const V<T> &v, size_t n) {
   return r;
 }
 
+// texts that differ from what is written again, by the case of letters
+static u64 raised_texts = 0;
 // the answers that a call has given
 static std::map<std::string, std::map<u32, u64>> answers;
 // An answer of a call that works out outlets: the closed sides that it has accepted, and how often it has answered no where another
@@ -413,6 +416,93 @@ static void ponds_round(const Desc &d, const V<i16> &e0, bool exact, gen::Rng &g
     before["ponds"][{18, 14}] += z.n < count;
   most_ponds = std::max<u64>(most_ponds, x.count);
 }
+// A sheet written into `room` bytes, and the bytes that are reported read again.
+static void write_round(const Desc &d, const V<i16> &e, size_t room, u64 round) {
+  Lent<u8> text(room);
+  V<u8> want = text.list();
+  Reply r = call_write(d.rows, d.cols, e, want);
+  tervuola_counted a = tervuola_write((u32)d.rows, (u32)d.cols, e.data(), e.size(), text.at(), text.n);
+  same_answer("write", a.number, a.place, r, round);
+  if (a.count != r.count)
+    fail("write", "the length", round);
+  same_list("write", "the text", text, want, round);
+  answers["write"][a.number]++;
+  auto &met = before["write"];
+  if (a.number == 4) {
+    met[{4, 5}] += d.rows < 1 || d.rows > 4000;
+    met[{4, 6}] += d.cols < 1 || d.cols > 4000;
+  }
+  met[{4, 7}] += a.number == 4 && e.size() != d.n();
+  met[{5, 6}] += a.number == 5 && (d.cols < 1 || d.cols > 4000);
+  met[{5, 7}] += a.number == 5 && e.size() != d.n();
+  met[{6, 7}] += a.number == 6 && e.size() != d.n();
+  met[{7, 8}] += a.number == 7 && room < 9 + d.rows * (4 * d.cols + 1);
+  if (a.number)
+    return;
+  Lent<i16> again(e.size() + round % 3);
+  V<i16> sheet = again.list();
+  std::copy(e.begin(), e.end(), sheet.begin());
+  tervuola_dimensions b = tervuola_read(text.at(), a.count, again.at(), again.n);
+  if (b.number || b.place || b.rows != d.rows || b.cols != d.cols)
+    fail("write", "what is read again", round);
+  same_list("write", "the sheet that is read again", again, sheet, round);
+}
+// a buffer for a sheet's text: as long as it must be, a byte short, longer, or none
+static size_t text_room(const Desc &d, gen::Rng &g) {
+  size_t n = std::min<u64>(9 + d.rows * (4 * d.cols + 1), 20000);
+  switch (g.below(6)) {
+  case 0:
+    return n - 1;
+  case 1:
+    return g.below(n);
+  case 2:
+    return n + 1 + g.below(100);
+  case 3:
+    return TERVUOLA_TEXT_BYTES;
+  default:
+    return n;
+  }
+}
+// "writing what was read yields the text with its letters raised to upper case"
+static void write_again(const std::string &t, u32 rows, u32 cols, const i16 *e, gen::Rng &g, u64 round) {
+  Lent<u8> text(t.size() + (g.chance(50) ? 0 : g.below(20)));
+  V<u8> want = text.list();
+  for (size_t i = 0; i < t.size(); i++)
+    want[i] = (u8)(t[i] >= 'a' && t[i] <= 'z' ? t[i] - 'a' + 'A' : t[i]);
+  tervuola_counted a = tervuola_write(rows, cols, e, (size_t)rows * cols, text.at(), text.n);
+  if (a.number || a.place || a.count != t.size())
+    fail("read", "the answer to what is written again", round);
+  same_list("read", "the text that is written again", text, want, round);
+  raised_texts += t != std::string(want.begin(), want.begin() + (long)t.size());
+}
+// a text with some of its letters in lower case, and now and then a byte that is damaged
+static std::string mixed_case(std::string t, gen::Rng &g) {
+  for (auto &c : t)
+    if (c >= 'A' && c <= 'F' && g.chance(50))
+      c = (char)(c - 'A' + 'a');
+  if (g.chance(20))
+    t[g.below(t.size())] = (char)g.below(256);
+  return t;
+}
+// sizes at the limits of the text format, and far past them, where rows * columns does not fit 32 bits
+static void write_sizes(u64 seed) {
+  static const u64 sizes[][2] = {{5000, 1}, {1, 5000}, {0, 9}, {9, 0}, {0, 0}, {2304, 0}, {0, 2304}, {65536, 65536}, {4294967295u, 4294967295u},
+                                 {4294967295u, 0}, {0, 4294967295u}, {4294967295u, 1}, {2147483648u, 2}, {2, 2147483648u}, {1, 1}, {48, 48},
+                                 {2304, 1}, {1, 2304}, {2305, 1}, {1, 2305}, {49, 47}, {49, 48}, {4000, 0}, {4001, 0}, {0, 4001}, {1152, 2}};
+  part = "size";
+  for (u64 i = 0; i < sizeof sizes / sizeof *sizes; i++)
+    for (u64 k = 0; k < 12; k++) {
+      gen::Rng g(seed * 1000003 + i * 12 + k);
+      Desc d;
+      d.rows = sizes[i][0];
+      d.cols = sizes[i][1];
+      V<i16> e(std::min<u64>(d.n(), 5000) + (k % 4 == 3));
+      for (auto &x : e)
+        x = (i16)g.below(65536);
+      write_round(d, e, text_room(d, g), i);
+    }
+  part = "round";
+}
 static void read_round(const std::string &t, gen::Rng &g, u64 round) {
   Lent<i16> out(g.chance(70) ? 2304 : g.below(2400));
   V<i16> want = out.list();
@@ -422,6 +512,8 @@ static void read_round(const std::string &t, gen::Rng &g, u64 round) {
   if (a.rows != r.rows || a.cols != r.cols)
     fail("read", "rows and columns", round);
   same_list("read", "the sheet", out, want, round);
+  if (!a.number)
+    write_again(t, a.rows, a.cols, out.at(), g, round);
 }
 
 // codes: random, from a sheet, or those with a ring or a bad byte
@@ -462,17 +554,24 @@ static bool every_answer(const char *call, const V<u32> &numbers) {
   printf("\n");
   return all;
 }
-// the same of a call that works out outlets: 17 and 18 are met in their order among the others (18 always comes before 10: without an
-// outlet the lowest cell has no level), and each number of closed sides has been accepted
-static bool every_outlets_answer(const char *call, const V<u32> &numbers, V<std::pair<u32, u32>> order) {
-  bool all = every_answer(call, numbers);
-  order.insert(order.begin(), {{5, 17}, {6, 17}, {17, 7}, {17, 8}, {17, 9}, {9, 18}});
+// the two questions of each pair have been answered no at once, and the first of them decided
+static bool every_order(const char *call, const V<std::pair<u32, u32>> &order) {
+  bool all = true;
   printf("compare: %s, times that two would have been answered no:", call);
   for (auto &two : order) {
     printf("  %u before %u: %llu", two.first, two.second, (unsigned long long)before[call][two]);
     all = all && before[call][two];
   }
-  printf("; closed sides accepted: %llu of 16\n", (unsigned long long)accepted_sides[call].size());
+  printf("\n");
+  return all;
+}
+// the same of a call that works out outlets: 17 and 18 are met in their order among the others (18 always comes before 10: without an
+// outlet the lowest cell has no level), and each number of closed sides has been accepted
+static bool every_outlets_answer(const char *call, const V<u32> &numbers, V<std::pair<u32, u32>> order) {
+  bool all = every_answer(call, numbers);
+  order.insert(order.begin(), {{5, 17}, {6, 17}, {17, 7}, {17, 8}, {17, 9}, {9, 18}});
+  all = every_order(call, order) && all;
+  printf("compare: %s, closed sides accepted: %llu of 16\n", call, (unsigned long long)accepted_sides[call].size());
   return all && accepted_sides[call].size() == 16;
 }
 
@@ -515,6 +614,7 @@ static int rounds(u64 count, u64 seed) {
   auto &kinds = gen::kinds();
   auto &bad = gen::badkinds();
   small_sheets(seed);
+  write_sizes(seed);
   for (u64 i = 0; i < count; i++) {
     gen::Rng g(seed * 1000003 + i);
     u64 side = g.chance(70) ? 9 : g.chance(70) ? 20 : 40;
@@ -541,14 +641,22 @@ static int rounds(u64 count, u64 seed) {
     culvert_round(d, banks, g, len, i);
     outlets_rounds(d, cut_sheet(g, i % FORMS, s.rows, s.cols), g, len, i);
     read_round(gen::badtext(bad[i % bad.size()], g.g() % 1000000), g, i);
-    if (s.rows * s.cols <= 2304)
+    V<i16> any(s.e);
+    for (auto &x : any)
+      x = (i16)g.below(65536);
+    if (s.rows * s.cols <= 2304) {
       read_round(gen::text(s), g, i);
+      read_round(mixed_case(sheet_text(s.rows, s.cols, any), g), g, i);
+    }
+    write_round(d, resized(s.e, len.of(s.e.size())), text_room(d, g), i);
+    write_round(d, resized(any, len.of(any.size())), text_room(d, g), i);
   }
   printf("compare: %llu rounds, %llu comparisons, all equal\n", (unsigned long long)count, (unsigned long long)checks);
   printf("compare: up to %llu ponds; %llu cells opened to a lower level, %llu of them on the border, %llu that lower the filled sheet elsewhere\n",
          (unsigned long long)most_ponds, (unsigned long long)opened_lower, (unsigned long long)opened_border, (unsigned long long)opened_banks);
   printf("compare: %llu sheets where a border cell flows inward, %llu with water on such a cell, %llu with one in a flat\n",
          (unsigned long long)inward, (unsigned long long)inward_wet, (unsigned long long)inward_flat);
+  printf("compare: %llu texts read whose letters are raised when they are written again\n", (unsigned long long)raised_texts);
   bool all = every_answer("counts", {0, 5, 6, 7, 8, 9, 11, 12});
   all = every_answer("labels", {0, 5, 6, 7, 8, 9, 11, 12}) && all;
   all = every_outlets_answer("fill", {0, 5, 6, 17, 7, 8, 9, 18}, {}) && all;
@@ -556,7 +664,8 @@ static int rounds(u64 count, u64 seed) {
   all = every_outlets_answer("drain", {0, 5, 6, 17, 7, 8, 9, 18}, {}) && all;
   all = every_outlets_answer("ponds", {0, 5, 6, 17, 7, 8, 9, 18, 14}, {{18, 14}}) && all;
   all = every_outlets_answer("culvert", {0, 5, 6, 17, 7, 8, 9, 15, 16, 18}, {{15, 18}, {16, 18}}) && all;
-  return checks && all && opened_border && opened_banks && inward_wet && inward_flat ? 0 : 1;
+  all = every_answer("write", {0, 4, 5, 6, 7, 8}) && every_order("write", {{4, 5}, {4, 6}, {4, 7}, {5, 6}, {5, 7}, {6, 7}, {7, 8}}) && all;
+  return checks && all && opened_border && opened_banks && inward_wet && inward_flat && raised_texts ? 0 : 1;
 }
 
 static int big(const char *kind, u64 side) {
@@ -594,7 +703,7 @@ static int big(const char *kind, u64 side) {
 }
 
 int main(int argc, char **argv) {
-  LEVEL = 4;
+  LEVEL = 5;
   if (argc == 4 && !strcmp(argv[1], "big"))
     return big(argv[2], strtoull(argv[3], 0, 10));
   if (argc < 2) {

@@ -11,7 +11,7 @@
         }                                                \
     } while (0)
 
-/* the calls that take closed sides, and the types of a cell and of its level, to the letter: a declaration that differs is refused */
+/* the calls that the requests brought or moved, to the letter: a declaration that differs is refused */
 #ifdef __cplusplus
 extern "C" {
 #endif
@@ -23,6 +23,7 @@ tervuola_answer tervuola_drain(uint32_t, uint32_t, uint32_t, const int16_t *, si
                                uint32_t *, size_t, uint32_t *, size_t);
 tervuola_answer tervuola_culvert(uint32_t, uint32_t, uint32_t, const int16_t *, size_t, uint32_t, int16_t, int16_t *, size_t, uint8_t *, size_t,
                                  uint32_t *, size_t, uint32_t *, size_t, uint32_t *, size_t);
+tervuola_counted tervuola_write(uint32_t, uint32_t, const int16_t *, size_t, uint8_t *, size_t);
 #ifdef __cplusplus
 }
 #endif

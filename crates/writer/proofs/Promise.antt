@@ -9,8 +9,6 @@ use lib.Dec.{leb}
 use lib.IntN.{ℤ}
 use lib.ListN.{length, take}
 use lib.Seq.{take-append-seam}
-use mir.Syntax.{w32}
-use mir.Val.{Fits as UFits}
 use borrow.Author.Tests.{le-leb, lt-leb, leb-true}
 use Rattle.grid.specs.declared.Grid.{Grid}
 use Rattle.grid.specs.declared.Answer.{Answer}
@@ -21,12 +19,12 @@ use Rattle.grid.specs.Writing.{writeCheck, ReadsAs}
 use Rattle.grid.specs.Promises.{WritePromise}
 use Rattle.grid_laws.proofs.Tests.{cond-true, cond-false, same-test}
 use Rattle.checks.specs.Sizes.{Fits}
-use Rattle.checks.proofs.Gate.{kept, passed, answered-no, is-accepted, next-no, next-yes}
-use Rattle.checks.proofs.Asked.{same-lists, have-again}
+use Rattle.checks.proofs.Gate.{Gate, kept, passed, answered-no, is-accepted, next-no, next-yes}
+use Rattle.checks.proofs.Asked.{Sheets, sheets-gate, same-lists, have-again}
 use Rattle.text_lines.specs.Put.{Put}
 use Rattle.frames.specs.Printed.{Printed, Sheet}
 use Rattle.frames.proofs.Outputs.{put-printed, one-room}
-use Rattle.writing_laws.proofs.Gates.{Sized, number-zero, before-room, sized, write-passes}
+use Rattle.writing_laws.proofs.Gates.{Sized, number-zero, sized, write-passes}
 use Rattle.writing_laws.proofs.Written.{reads-as}
 
 -- ---- 4
@@ -46,33 +44,42 @@ by-quotient g n =
 
 -- ---- 5 to 8
 
+module _ (g : Grid) (given room : ℕ) (answer : Answer) (is : answer ≡ askSheets g (given ∷ given ∷ []) [] accepted) where
+  asked : answer ≡ askSheets g (given ∷ []) [] accepted
+  asked = is ∙ same-lists g (given ∷ given ∷ []) (given ∷ []) [] [] accepted (have-again (size g) given []) refl
+
+  -- what 8 is asked after
+  before-room : Gate (askSheets g (given ∷ []) []) (Sheets g (given ∷ []) [])
+  before-room = sheets-gate g (given ∷ []) []
+
+  abbrev askRoom : Answer
+  askRoom = ask (leb (textLength g) room) (refusal 8 0) accepted
+
+  pub bad-sizes : (answer .number ≡ 0 → ⊥) → answer ≡ askSheets g (given ∷ []) [] askRoom
+  bad-sizes n = answered-no before-room asked n askRoom
+
+  module _ (z : answer .number ≡ 0) where
+    pub fits : Fits g
+    fits = passed before-room asked z .fact .fits
+
+    pub too-short : room < textLength g → refusal 8 0 ≡ askSheets g (given ∷ []) [] askRoom
+    too-short h = next-no before-room asked z (refusal 8 0) accepted (lt-leb (textLength g) room h)
+
+    pub room-enough : textLength g ≤ room → answer ≡ askSheets g (given ∷ []) [] askRoom
+    room-enough h =
+        is-accepted before-room asked z ∙ next-yes before-room asked z (refusal 8 0) accepted (le-leb (textLength g) room h)
+
+-- ---- 4, and what is asked after it
+
 module _ (g : Grid) (given room : ℕ) where
   pub too-many : leb (size g) 2304 ≡ false → refusal 4 0 ≡ writeCheck g given room
   unfolding writeCheck
   too-many n = sym (cond-false _ _ n)
 
-  module _ (few : leb (size g) 2304 ≡ true) (answer : Answer) (is : answer ≡ askSheets g (given ∷ given ∷ []) [] accepted) where
-    asked : answer ≡ ask (leb (size g) 2304) (refusal 4 0) (askSheets g (given ∷ []) [] accepted)
-    asked =
-        is ∙ same-lists g (given ∷ given ∷ []) (given ∷ []) [] [] accepted (have-again (size g) given []) refl ∙ sym (cond-true _ _ few)
-
-    pub no-size : (answer .number ≡ 0 → ⊥) → answer ≡ writeCheck g given room
-    unfolding writeCheck
-    no-size n = answered-no (before-room g given) asked n (ask (leb (textLength g) room) (refusal 8 0) accepted)
-
-    module _ (z : answer .number ≡ 0) where
-      pub fits : Fits g
-      fits = passed (before-room g given) asked z .fact .1 .fits
-
-      pub too-short : room < textLength g → refusal 8 0 ≡ writeCheck g given room
-      unfolding writeCheck
-      too-short h = next-no (before-room g given) asked z (refusal 8 0) accepted (lt-leb (textLength g) room h)
-
-      pub all-yes : textLength g ≤ room → answer ≡ writeCheck g given room
-      unfolding writeCheck
-      all-yes h =
-          is-accepted (before-room g given) asked z
-          ∙ next-yes (before-room g given) asked z (refusal 8 0) accepted (le-leb (textLength g) room h)
+  pub few-enough : leb (size g) 2304 ≡ true → {r : Answer} →
+      r ≡ askSheets g (given ∷ []) [] (ask (leb (textLength g) room) (refusal 8 0) accepted) → r ≡ writeCheck g given room
+  unfolding writeCheck
+  few-enough y e = e ∙ sym (cond-true _ _ y)
 
 -- the length of a text fits a word
 pub text-small : (g : Grid) → g .rows ≤ 4000 → g .cols ≤ 4000 → g .rows * (4 * g .cols + 1) ≤ 64004000
@@ -96,10 +103,10 @@ module _ (g : Grid) (e : List ℤ) (text₀ : List ℕ) (answer : Answer) (is : 
 
   module _ (z : answer .number ≡ 0) {text₁ : List ℕ} {n : ℕ}
       (put : Put (elevationText g e) (9 + g .rows * (g .cols * 4 + 1)) 0 text₀ text₁ n) where
-    pub count-fits : UFits w32 n
-    count-fits =
+    pub count-small : n ≤ 64004009
+    count-small =
         let s = all-sized z in
-        record { fits = omega (arith, put .next-place, one-room (g .rows) (g .cols), text-small g (s .fits .rows-high) (s .fits .cols-high)) }
+        omega (arith, put .next-place, one-room (g .rows) (g .cols), text-small g (s .fits .rows-high) (s .fits .cols-high))
 
     pub written : SixteenBits e → WritePromise g e text₀ text₁ record { number = 0; place = 0; count = n }
     written bits =

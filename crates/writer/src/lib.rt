@@ -2,9 +2,11 @@
 // that order; "A no changes no result buffer", and the length reported beside it is 0. Once all are answered, `frames` stores the text.
 // That reading undoes it is a law about the text (`writing_laws`), and so part of the promise.
 ghost use mathlib.Core.Path.{_≡_};
+ghost use mathlib.Core.List.{[], _∷_};
 ghost use Prim.Native.Nat.{_≤_};
 ghost use lib.Dec.{leb};
 ghost use Rattle.grid.specs.Sheet.{size};
+ghost use Rattle.grid.specs.Checks.{refusal, accepted, ask, askSheets};
 ghost use Rattle.grid.specs.Frames.{textLength};
 ghost use Rattle.grid.specs.Writing.{writeCheck};
 ghost use Rattle.grid.specs.Promises.{WritePromise};
@@ -34,16 +36,10 @@ fn text_length(g: Grid) -> usize
     9 + rows * (4 * cols + 1)
 }
 
-// 4 to 8
-fn check(g: Grid, given: usize, room: usize) -> Answer
-    ensures { λ r. ⌜ r ≡ writeCheck g given room ⌝ }
+// 5 to 8
+fn check_sizes(g: Grid, given: usize, room: usize) -> Answer
+    ensures { λ r. ⌜ r ≡ askSheets g (given ∷ []) [] (ask (leb (textLength g) room) (refusal 8 0) accepted) ⌝ }
 {
-    if !few_cells(g) {
-        return Answer {
-            number: 4,
-            place: 0,
-        };
-    }
     let answer = checks::inputs(g, given, given);
     if answer.number != 0 {
         return answer;
@@ -55,6 +51,19 @@ fn check(g: Grid, given: usize, room: usize) -> Answer
         };
     }
     answer
+}
+
+// 4 to 8
+fn check(g: Grid, given: usize, room: usize) -> Answer
+    ensures { λ r. ⌜ r ≡ writeCheck g given room ⌝ }
+{
+    if !few_cells(g) {
+        return Answer {
+            number: 4,
+            place: 0,
+        };
+    }
+    check_sizes(g, given, room)
 }
 
 // Rows, columns and elevations to a text.

@@ -16,7 +16,7 @@ use Rattle.grid.specs.Writing.{writeCheck}
 use Rattle.grid_laws.proofs.Tests.{T-true, cond-true, and-true}
 use Rattle.checks.specs.Sizes.{Fits}
 use Rattle.checks.proofs.Gate.{Gate, one, both, weaken, passed}
-use Rattle.checks.proofs.Asked.{Sheets, size-gate, sheets-gate}
+use Rattle.checks.proofs.Asked.{size-gate, sheets-gate}
 
 pub number-zero : (a : Answer) → T (isAccepted a) → a .number ≡ 0
 number-zero a t = eqb-true (a .number) 0 (T-true (isAccepted a) t)
@@ -39,12 +39,6 @@ same-fits g h r c f = rw (r, c) record {
 
 -- ---- write
 
--- 4 to 7
-pub before-room : (g : Grid) (elevations : ℕ) →
-    Gate (λ later. ask (leb (size g) 2304) (refusal 4 0) (askSheets g (elevations ∷ []) [] later))
-    ((leb (size g) 2304 ≡ true) × Sheets g (elevations ∷ []) [])
-before-room g elevations = both (one (leb (size g) 2304) 4 0 (omega arith)) (sheets-gate g (elevations ∷ []) [])
-
 pub record Sized (g : Grid) (elevations room : ℕ) : Type 0 where
   pub few : size g ≤ 2304
   pub fits : Fits g
@@ -58,12 +52,13 @@ write-gate : (g : Grid) (elevations room : ℕ) →
 write-gate g elevations room =
     weaken
     (λ f. record {
-      few = leb-true (size g) 2304 (f .0 .0);
-      fits = f .0 .1 .fits;
-      long = f .0 .1 .inputs-have .0;
-      room-for = leb-true (textLength g) room (f .1);
+      few = leb-true (size g) 2304 (f .0);
+      fits = f .1 .0 .fits;
+      long = f .1 .0 .inputs-have .0;
+      room-for = leb-true (textLength g) room (f .1 .1);
     })
-    (both (before-room g elevations) (one (leb (textLength g) room) 8 0 (omega arith)))
+    (both (one (leb (size g) 2304) 4 0 (omega arith))
+    (both (sheets-gate g (elevations ∷ []) []) (one (leb (textLength g) room) 8 0 (omega arith))))
 
 pub sized : (g : Grid) (elevations room : ℕ) → (writeCheck g elevations room) .number ≡ 0 → Sized g elevations room
 unfolding writeCheck

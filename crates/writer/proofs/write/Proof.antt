@@ -1,6 +1,7 @@
 -- `writer::write`: beside a no, and after the last yes.
+use native.Mathlib.Omega.{arith}
 use borrow.Author.Needs.{needs}
-use Rattle.writer.proofs.Promise.{refused, printable, count-fits, written}
+use Rattle.writer.proofs.Promise.{refused, printable, count-small, written}
 use Rattle.writer.proofs.write.Statement.{statement}
 use Rattle.writer.proofs.write.Tie as tie
 
@@ -24,8 +25,9 @@ cast-t11 c =
     let m = c .before .before .before in
     let a = m .before .before .before .check in
     let s = m .before .before .before .before .before .args in
-    count-fits (s .g) (s .elevations .now) (s .text .now) (a .result) (a .ensures) (m .before .if1 .left)
-    (c .before .before .write-elevations .ensures .0)
+    let small = count-small (s .g) (s .elevations .now) (s .text .now) (a .result) (a .ensures) (m .before .if1 .left)
+    (c .before .before .write-elevations .ensures .0) in
+    omega (arith, small)
 
 same-length : tie.Need-same-length
 same-length c = search needs
