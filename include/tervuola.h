@@ -1,5 +1,6 @@
 /*
- * tervuola.h - drainage of an elevation sheet: fill, flow directions, flow accumulation counts, basins, ponds, culverts.
+ * tervuola.h - drainage of an elevation sheet: fill, flow directions, flow accumulation counts, basins, ponds, culverts; and small
+ * sheets read from text and written as text.
  *
  * Every call is proved against the definitions in crates/grid/specs (docs/DEFINITIONS.md has them in words, docs/PROVED.md says
  * what is proved): for every input and every length of every buffer it gives the number, the place and every element of every
@@ -297,10 +298,11 @@ tervuola_dimensions tervuola_read(const uint8_t *text, size_t text_len,
 
 /*
  * Writes an elevation sheet as a text frame: upper-case digits and nothing optional, so that two sheets have equal text exactly
- * when rows, columns and all elevations are equal. Closed sides are no part of the text. tervuola_read gives back what was
- * written; written again, a text that was read has its letters raised to upper case. Reports the bytes written,
- * 9 + rows * (4 * cols + 1); bytes past them are untouched, and no zero byte ends them.
- * elevations: rows * cols. text: at least so many bytes; TERVUOLA_TEXT_BYTES always suffice.
+ * when rows, columns and all elevations are equal. Closed sides are no part of the text. Reports the bytes written,
+ * 9 + rows * (4 * cols + 1); bytes past them are untouched, and no zero byte ends them. tervuola_read gives back the sheet from
+ * just these bytes (text_len: the count reported); a text that was read, written again, has its letters raised to upper case.
+ * elevations: rows * cols exactly, not all of a longer buffer that was read into. text: at least the bytes above, which a refusal
+ * does not tell; TERVUOLA_TEXT_BYTES always suffice.
  * Numbers: 4 5 6 7 8 (text is too short). Promise: WritePromise; what is shown of texts: Writing.antt, RoundTrips.antt.
  */
 tervuola_counted tervuola_write(uint32_t rows, uint32_t cols,

@@ -100,8 +100,8 @@ template <class T> static V<T> resized(const V<T> &v, size_t n) {
   return r;
 }
 
-// texts that differ from what is written again, by the case of letters
-static u64 raised_texts = 0;
+// texts that differ from what is written again, by the case of letters; texts written into just their length, and refused a byte less
+static u64 raised_texts = 0, exact_rooms = 0, short_rooms = 0;
 // the answers that a call has given
 static std::map<std::string, std::map<u32, u64>> answers;
 // An answer of a call that works out outlets: the closed sides that it has accepted, and how often it has answered no where another
@@ -421,7 +421,7 @@ static void write_round(const Desc &d, const V<i16> &e, size_t room, u64 round) 
   Lent<u8> text(room);
   V<u8> want = text.list();
   Reply r = call_write(d.rows, d.cols, e, want);
-  tervuola_counted a = tervuola_write((u32)d.rows, (u32)d.cols, e.data(), e.size(), text.at(), text.n);
+  tervuola_counted a = tervuola_write((u32)d.rows, (u32)d.cols, e.data(), e.size(), room ? text.at() : nullptr, text.n);
   same_answer("write", a.number, a.place, r, round);
   if (a.count != r.count)
     fail("write", "the length", round);
@@ -432,11 +432,14 @@ static void write_round(const Desc &d, const V<i16> &e, size_t room, u64 round) 
     met[{4, 5}] += d.rows < 1 || d.rows > 4000;
     met[{4, 6}] += d.cols < 1 || d.cols > 4000;
   }
-  met[{4, 7}] += a.number == 4 && e.size() != d.n();
+  for (u32 k = 4; k <= 6; k++)
+    met[{k, 7}] += a.number == k && e.size() != d.n();
   met[{5, 6}] += a.number == 5 && (d.cols < 1 || d.cols > 4000);
-  met[{5, 7}] += a.number == 5 && e.size() != d.n();
-  met[{6, 7}] += a.number == 6 && e.size() != d.n();
-  met[{7, 8}] += a.number == 7 && room < 9 + d.rows * (4 * d.cols + 1);
+  size_t length = 9 + d.rows * (4 * d.cols + 1);
+  for (u32 k = 4; k <= 7; k++)
+    met[{k, 8}] += a.number == k && room < length;
+  exact_rooms += !a.number && room == length;
+  short_rooms += a.number == 8 && room == length - 1;
   if (a.number)
     return;
   Lent<i16> again(e.size() + round % 3);
@@ -447,17 +450,19 @@ static void write_round(const Desc &d, const V<i16> &e, size_t room, u64 round) 
     fail("write", "what is read again", round);
   same_list("write", "the sheet that is read again", again, sheet, round);
 }
-// a buffer for a sheet's text: as long as it must be, a byte short, longer, or none
-static size_t text_room(const Desc &d, gen::Rng &g) {
+// a buffer for a sheet's text: a byte short, none, shorter, longer, the longest there is, or else as long as it must be
+static size_t text_room(const Desc &d, gen::Rng &g, u64 k) {
   size_t n = std::min<u64>(9 + d.rows * (4 * d.cols + 1), 20000);
-  switch (g.below(6)) {
+  switch (k) {
   case 0:
     return n - 1;
   case 1:
-    return g.below(n);
+    return 0;
   case 2:
-    return n + 1 + g.below(100);
+    return g.below(n);
   case 3:
+    return n + 1 + g.below(100);
+  case 4:
     return TERVUOLA_TEXT_BYTES;
   default:
     return n;
@@ -484,6 +489,24 @@ static std::string mixed_case(std::string t, gen::Rng &g) {
     t[g.below(t.size())] = (char)g.below(256);
   return t;
 }
+// "Two sheets have equal text exactly when rows, columns and all elevations are equal": a sheet, itself, one with another cell, and one with rows
+// for columns
+static void equal_texts(u64 rows, u64 cols, const V<i16> &e, gen::Rng &g, u64 round) {
+  auto text = [&](u64 r, u64 c, const V<i16> &x) {
+    V<u8> t(TERVUOLA_TEXT_BYTES);
+    tervuola_counted a = tervuola_write((u32)r, (u32)c, x.data(), x.size(), t.data(), t.size());
+    if (a.number)
+      fail("write", "the answer", round);
+    t.resize(a.count);
+    return t;
+  };
+  V<i16> other(e);
+  other[g.below(e.size())] ^= (i16)(1u << g.below(16));
+  V<u8> t = text(rows, cols, e);
+  checks += 3;
+  if (t != text(rows, cols, V<i16>(e)) || t == text(rows, cols, other) || (rows != cols && t == text(cols, rows, e)))
+    fail("write", "whether texts are equal", round);
+}
 // sizes at the limits of the text format, and far past them, where rows * columns does not fit 32 bits
 static void write_sizes(u64 seed) {
   static const u64 sizes[][2] = {{5000, 1}, {1, 5000}, {0, 9}, {9, 0}, {0, 0}, {2304, 0}, {0, 2304}, {65536, 65536}, {4294967295u, 4294967295u},
@@ -491,15 +514,15 @@ static void write_sizes(u64 seed) {
                                  {2304, 1}, {1, 2304}, {2305, 1}, {1, 2305}, {49, 47}, {49, 48}, {4000, 0}, {4001, 0}, {0, 4001}, {1152, 2}};
   part = "size";
   for (u64 i = 0; i < sizeof sizes / sizeof *sizes; i++)
-    for (u64 k = 0; k < 12; k++) {
-      gen::Rng g(seed * 1000003 + i * 12 + k);
+    for (u64 k = 0; k < 24; k++) {
+      gen::Rng g(seed * 1000003 + i * 24 + k);
       Desc d;
       d.rows = sizes[i][0];
       d.cols = sizes[i][1];
-      V<i16> e(std::min<u64>(d.n(), 5000) + (k % 4 == 3));
+      V<i16> e(std::min<u64>(d.n(), 5000) + (k % 8 == 7));
       for (auto &x : e)
         x = (i16)g.below(65536);
-      write_round(d, e, text_room(d, g), i);
+      write_round(d, e, text_room(d, g, k % 6), i);
     }
   part = "round";
 }
@@ -648,15 +671,18 @@ static int rounds(u64 count, u64 seed) {
       read_round(gen::text(s), g, i);
       read_round(mixed_case(sheet_text(s.rows, s.cols, any), g), g, i);
     }
-    write_round(d, resized(s.e, len.of(s.e.size())), text_room(d, g), i);
-    write_round(d, resized(any, len.of(any.size())), text_room(d, g), i);
+    write_round(d, resized(s.e, len.of(s.e.size())), text_room(d, g, g.below(7)), i);
+    write_round(d, resized(any, len.of(any.size())), text_room(d, g, g.below(7)), i);
+    if (s.rows * s.cols <= 2304)
+      equal_texts(s.rows, s.cols, any, g, i);
   }
   printf("compare: %llu rounds, %llu comparisons, all equal\n", (unsigned long long)count, (unsigned long long)checks);
   printf("compare: up to %llu ponds; %llu cells opened to a lower level, %llu of them on the border, %llu that lower the filled sheet elsewhere\n",
          (unsigned long long)most_ponds, (unsigned long long)opened_lower, (unsigned long long)opened_border, (unsigned long long)opened_banks);
   printf("compare: %llu sheets where a border cell flows inward, %llu with water on such a cell, %llu with one in a flat\n",
          (unsigned long long)inward, (unsigned long long)inward_wet, (unsigned long long)inward_flat);
-  printf("compare: %llu texts read whose letters are raised when they are written again\n", (unsigned long long)raised_texts);
+  printf("compare: %llu texts read whose letters are raised when they are written again; %llu written into just their length, %llu refused a byte less\n",
+         (unsigned long long)raised_texts, (unsigned long long)exact_rooms, (unsigned long long)short_rooms);
   bool all = every_answer("counts", {0, 5, 6, 7, 8, 9, 11, 12});
   all = every_answer("labels", {0, 5, 6, 7, 8, 9, 11, 12}) && all;
   all = every_outlets_answer("fill", {0, 5, 6, 17, 7, 8, 9, 18}, {}) && all;
@@ -664,8 +690,8 @@ static int rounds(u64 count, u64 seed) {
   all = every_outlets_answer("drain", {0, 5, 6, 17, 7, 8, 9, 18}, {}) && all;
   all = every_outlets_answer("ponds", {0, 5, 6, 17, 7, 8, 9, 18, 14}, {{18, 14}}) && all;
   all = every_outlets_answer("culvert", {0, 5, 6, 17, 7, 8, 9, 15, 16, 18}, {{15, 18}, {16, 18}}) && all;
-  all = every_answer("write", {0, 4, 5, 6, 7, 8}) && every_order("write", {{4, 5}, {4, 6}, {4, 7}, {5, 6}, {5, 7}, {6, 7}, {7, 8}}) && all;
-  return checks && all && opened_border && opened_banks && inward_wet && inward_flat && raised_texts ? 0 : 1;
+  all = every_answer("write", {0, 4, 5, 6, 7, 8}) && every_order("write", {{4, 5}, {4, 6}, {4, 7}, {4, 8}, {5, 6}, {5, 7}, {5, 8}, {6, 7}, {6, 8}, {7, 8}}) && all;
+  return checks && all && opened_border && opened_banks && inward_wet && inward_flat && raised_texts && exact_rooms && short_rooms ? 0 : 1;
 }
 
 static int big(const char *kind, u64 side) {

@@ -6,12 +6,12 @@ use Prim.Native.Nat.{ℕ, _*_, _≤_}
 use native.Mathlib.Nat.{mul-le-mul}
 use native.Mathlib.Omega.{arith}
 use lib.Dec.{eqb, leb}
-use borrow.Author.Tests.{leb-true, eqb-true}
+use borrow.Author.Tests.{le-leb, leb-true, eqb-true}
 use Rattle.grid.specs.declared.Grid.{Grid}
 use Rattle.grid.specs.declared.Answer.{Answer}
 use Rattle.grid.specs.Sheet.{size}
 use Rattle.grid.specs.Checks.{refusal, ask, inRange, askSize, allHave, askLengths, askSides, askSheets, askOutlets, askWork}
-use Rattle.grid_laws.proofs.Tests.{and-left, and-right, not-is-true, not-is-false}
+use Rattle.grid_laws.proofs.Tests.{cond-true, and-true, and-left, and-right, not-is-true, not-is-false}
 use Rattle.checks.specs.Sizes.{Fits}
 use Rattle.checks.proofs.Gate.{Gate, one, both, weaken}
 
@@ -45,6 +45,25 @@ fits-of-range g (r, c) =
 pub size-gate : (g : Grid) → Gate (askSize g) (Fits g)
 unfolding askSize
 size-gate g = weaken (fits-of-range g) (both (one (inRange (g .rows)) 5 0 (omega arith)) (one (inRange (g .cols)) 6 0 (omega arith)))
+
+-- and back
+pub range-of : {k : ℕ} → 1 ≤ k → k ≤ 4000 → inRange k ≡ true
+unfolding inRange
+range-of {k} low high = and-true (le-leb 1 k low) (le-leb k 4000 high)
+
+pub size-passes : (g : Grid) → Fits g → (later : Answer) → askSize g later ≡ later
+unfolding askSize
+size-passes g f later = cond-true _ _ (range-of (f .rows-low) (f .rows-high)) ∙ cond-true _ _ (range-of (f .cols-low) (f .cols-high))
+
+-- sides are no part of it
+pub same-fits : (g h : Grid) → g .rows ≡ h .rows → g .cols ≡ h .cols → Fits h → Fits g
+same-fits g h r c f = rw (r, c) record {
+  rows-low = f .rows-low;
+  rows-high = f .rows-high;
+  cols-low = f .cols-low;
+  cols-high = f .cols-high;
+  cells = f .cells;
+}
 
 -- ---- 7 to 9
 

@@ -5,11 +5,11 @@ use mathlib.Core.Bool.{Bool, true, false, cond}
 use mathlib.Core.Logic.{_⊎_, inl, inr}
 use Prim.Native.Nat.{ℕ, _<_}
 use native.Mathlib.Omega.{arith}
-use lib.Dec.{eqb}
-use borrow.Author.Tests.{ne-eqb}
+use lib.Dec.{T, eqb}
+use borrow.Author.Tests.{ne-eqb, eqb-true}
 use Rattle.grid.specs.declared.Answer.{Answer}
-use Rattle.grid.specs.Checks.{refusal, accepted, ask}
-use Rattle.grid_laws.proofs.Tests.{test, cond-true, cond-false}
+use Rattle.grid.specs.Checks.{refusal, accepted, isAccepted, ask}
+use Rattle.grid_laws.proofs.Tests.{test, T-true, cond-true, cond-false}
 
 -- every answer is yes, with what that says
 pub record Passed (gate : Answer → Answer) (Fact : Type 0) : Type 0 where
@@ -58,6 +58,17 @@ weaken f (inr n) = inr n
 -- a no leaves a result as it is
 pub kept : {A : Type 0} {number : ℕ} {y : A} → (number ≡ 0 → ⊥) → (x : A) → y ≡ cond (eqb number 0) x y
 kept {number = number} {y = y} n x = sym (cond-false x y (ne-eqb number 0 n))
+
+-- a gate by its own answer
+pub by-answer : {gate : Answer → Answer} {A : Type 0} → Gate gate A → (later : Answer) →
+    gate later ≡ cond (isAccepted (gate accepted)) later (gate accepted)
+by-answer {gate} (inl p) later = p .then later ∙ sym (cond-true _ _ (ap isAccepted (p .then accepted)))
+by-answer {gate} (inr f) later =
+    let l = f .above in
+    f .stands later ∙ sym (cond-false _ _ (ne-eqb ((gate accepted) .number) 0 (λ e. let z : ⊥ = omega arith in z)))
+
+pub number-zero : (a : Answer) → T (isAccepted a) → a .number ≡ 0
+number-zero a t = eqb-true (a .number) 0 (T-true (isAccepted a) t)
 
 -- by the number that a gate answered
 module _ {gate : Answer → Answer} {Fact : Type 0} (is : Gate gate Fact) {r : Answer} (asked : r ≡ gate accepted) where

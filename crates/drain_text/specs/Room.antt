@@ -1,19 +1,17 @@
 -- The sheets of a call with text, and the room for what it prints.
 use mathlib.Core.Path.{_≡_}
-use mathlib.Core.Bool.{true}
 use mathlib.Core.List.{List}
 use Prim.Native.Nat.{ℕ, _*_, _≤_}
 use lib.IntN.{ℤ}
 use lib.ListN.{length}
 use Rattle.grid.specs.declared.Grid.{Grid}
 use Rattle.grid.specs.Sheet.{size}
-use Rattle.grid.specs.Checks.{inRange}
+use Rattle.checks.specs.Sizes.{Fits}
 
 -- a sheet with every side open that passes questions 4, 5 and 6, and room for its results as text
 pub record Small (g : Grid) (elevations : List ℤ) (out : List ℕ) : Type 0 where
   pub few : size g ≤ 2304
-  pub rows-in-range : inRange (g .rows) ≡ true
-  pub cols-in-range : inRange (g .cols) ≡ true
+  pub fits : Fits g
   pub no-sides : g .sides ≡ 0
   pub elevations-size : length elevations ≡ size g
   pub room : 59913 ≤ length out

@@ -8,9 +8,8 @@ use native.Mathlib.Omega.{arith}
 use lib.Dec.{ltb}
 use lib.ListN.{length, getD, set}
 use lib.IntN.{ℤ}
-use lib.Signed.{_≤ℤ_}
 use borrow.Author.Tests.{lt-ltb, le-ltb}
-use Rattle.grid.specs.Sheet.{void, top, at, SixteenBits}
+use Rattle.grid.specs.Sheet.{void, at, SixteenBits, IsElevation}
 use Rattle.grid_laws.proofs.Tests.{and-false-left}
 use Rattle.grid_laws.proofs.Lists.{at-set}
 use Rattle.grid_laws.proofs.Cells.{all-sixteen}
@@ -19,18 +18,18 @@ use Rattle.fill.specs.Words.{isUnreached}
 
 -- the first i elevations are loaded
 abbrev pub LoadTo : List ℤ → List ℕ → ℕ → Type 0
-LoadTo e w i = (x : ℕ) → x < i → (getD w x 0 ≡ keyOf (at e x)) × (void ≤ℤ at e x) × (at e x ≤ℤ top)
+LoadTo e w i = (x : ℕ) → x < i → (getD w x 0 ≡ keyOf (at e x)) × IsElevation (at e x)
 
-pub load-more : (e : List ℤ) (w : List ℕ) (i v : ℕ) → i < length w → v ≡ keyOf (at e i) → (void ≤ℤ at e i) × (at e i ≤ℤ top) →
+pub load-more : (e : List ℤ) (w : List ℕ) (i v : ℕ) → i < length w → v ≡ keyOf (at e i) → IsElevation (at e i) →
     LoadTo e w i → LoadTo e (set w i v) (i + 1)
 load-more e w i v hw k r L x h =
     ⊎-elim
-    (λ q. rw (q .1) (rw (q .0) (k, r .0, r .1)))
+    (λ q. rw (q .1) (rw (q .0) (k, r)))
     (λ q. rw (q .1) (L x (let n = q .0 in omega arith)))
     (at-set 0 w i v hw x)
 
 pub load-end : (e : List ℤ) (w : List ℕ) → LoadTo e w (length e) → SixteenBits e
-load-end e w L = all-sixteen e (λ x h. let q = L x h in (q .1, q .2))
+load-end e w L = all-sixteen e (λ x h. L x h .1)
 
 -- the first i levels are unloaded
 pub unload-more : (f : ℕ → ℤ) (out : List ℤ) (i : ℕ) (v : ℤ) → i < length out → v ≡ f i → ((c : ℕ) → c < i → at out c ≡ f c) → (c : ℕ) →

@@ -1,14 +1,13 @@
 -- The sheet that keys spell is the one that was loaded; the words of a flood have the key of each cell below its filled key.
 use mathlib.Core.Path.{_≡_, sym, _∙_, ap, subst}
 use mathlib.Core.List.{List}
-use Prim.Native.Nat.{ℕ, _/_, _%_, _≤_, _<_}
+use Prim.Native.Nat.{ℕ, _/_, _%_, _<_}
 use native.Mathlib.Omega.{arith}
 use lib.ListN.{length, getD}
 use lib.Seq.{ext-getD}
 use lib.IntN.{ℤ}
-use lib.Signed.{_≤ℤ_}
 use Rattle.grid.specs.declared.Grid.{Grid}
-use Rattle.grid.specs.Sheet.{size, void, top, at, SixteenBits}
+use Rattle.grid.specs.Sheet.{size, void, at, SixteenBits, IsElevation}
 use Rattle.grid.specs.Fill.{filled}
 use Rattle.grid_laws.proofs.Below.{at-table, length-table, is-table}
 use Rattle.grid_laws.proofs.Cells.{all-sixteen}
@@ -33,7 +32,7 @@ module _ (n : ℕ) (w : List ℕ) where
   pub sheet-sixteen : AreKeys n w → SixteenBits (sheetIn n w)
   sheet-sixteen K = all-sixteen (sheetIn n w) (λ c h. on c (rw sheet-length at h))
     where
-      on : (c : ℕ) → c < n → (void ≤ℤ at (sheetIn n w) c) × (at (sheetIn n w) c ≤ℤ top)
+      on : (c : ℕ) → c < n → IsElevation (at (sheetIn n w) c)
       on c h = rw (sheet-at c h) (level-above-void (getD w c 0), level-top (getD w c 0) (K c h))
 
 module _ (g : Grid) (e : List ℤ) (w : List ℕ) (cells : length e ≡ size g) (range : SixteenBits e)

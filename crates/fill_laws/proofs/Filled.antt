@@ -191,7 +191,8 @@ drained-filled g f cells-f range drains =
     own : DrainedSheet g f f
     own = record { cells = cells-f; voids = λ c h. refl; outlets = λ c h. refl; above = λ c d. ≤ℤ-refl (at f c); drains = drains }
 
-pub filled-again : (g : Grid) (e : List ℤ) → length e ≡ size g → SixteenBits e → firstStranded g e ≡ size g → filled g (filled g e) ≡ filled g e
+pub filled-again : (g : Grid) (e : List ℤ) → length e ≡ size g → SixteenBits e → firstStranded g e ≡ size g →
+    filled g (filled g e) ≡ filled g e
 filled-again g e cells-e range reach =
     drained-filled g (filled g e) (filled-length g e) (filled-range g e cells-e range)
     (λ c d. let p = never-rising-path g e cells-e range reach c (subst T (filled-data g e cells-e range c) d) in

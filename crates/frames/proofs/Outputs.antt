@@ -1,13 +1,14 @@
 -- Whole outputs: the runs that make them, one after the other.
-use mathlib.Core.Path.{_≡_, _∙_}
-use mathlib.Core.List.{List}
+use mathlib.Core.Path.{_≡_, _∙_, subst}
+use mathlib.Core.List.{List, _++_}
 use Prim.Native.Nat.{ℕ, _+_, _*_, _≤_}
 use native.Mathlib.Omega.{arith}
 use lib.IntN.{ℤ}
 use lib.ListN.{length, getD, set}
 use Rattle.grid.specs.declared.Grid.{Grid}
 use Rattle.grid.specs.declared.Answer.{Answer}
-use Rattle.grid.specs.Frames.{lineFeed, hexText, sheetText, elevationText, resultText, refusalText}
+use Rattle.grid.specs.Sheet.{at}
+use Rattle.grid.specs.Frames.{lineFeed, textLength, toTwos, hexText, sheetText, headerText, elevationText, resultText, refusalText}
 use Rattle.text_lines.specs.Put.{Put}
 use Rattle.frames.specs.Printed.{Printed, resultLength}
 use Rattle.text_laws.proofs.Runs.{sets-front}
@@ -23,16 +24,23 @@ module _ {a : List ℕ} {n : ℕ} {out₀ out₁ : List ℕ} {j : ℕ} where
         stored = p .stored ∙ sets-front a out₀ (omega arith);
       }
 
--- the bytes of one sheet, and of the four, counted row by row
-pub one-room : (r q : ℕ) → 9 + r * (q * 4 + 1) ≡ 9 + r * (4 * q + 1)
-one-room r q = omega arith
+-- the header and the rows
+pub elevations-put : (g : Grid) (e : List ℤ) {o₀ o₁ o₂ : List ℕ} {n₁ n₂ : ℕ}
+    → Put (headerText g) 9 0 o₀ o₁ n₁
+    → Put (sheetText g 4 (λ c. toTwos (at e c))) (g .rows * (g .cols * 4 + 1)) n₁ o₁ o₂ n₂
+    → Put (elevationText g e) (textLength g) 0 o₀ o₂ n₂
+unfolding elevationText
+elevations-put g e {o₀} {o₁} {o₂} {n₁} {n₂} a b =
+    let w : 9 + g .rows * (g .cols * 4 + 1) ≡ textLength g = omega arith in
+    subst (λ (n : ℕ). Put (headerText g ++ sheetText g 4 (λ c. toTwos (at e c))) n 0 o₀ o₂ n₂) w (put-put a b)
 
-room-of : (r q : ℕ) → 9 + r * (q * 4 + 1) + r * (q * 2 + 1) + r * (q * 8 + 1) + r * (q * 8 + 1) ≡ 9 + r * (22 * q + 4)
+-- the bytes of the four sheets, counted row by row
+room-of : (r q : ℕ) → 9 + r * (4 * q + 1) + r * (q * 2 + 1) + r * (q * 8 + 1) + r * (q * 8 + 1) ≡ 9 + r * (22 * q + 4)
 room-of r q = omega arith
 
 module _ (g : Grid) (filled : List ℤ) (codes counts labels : List ℕ) {o₀ o₁ o₂ o₃ o₄ : List ℕ} {n₁ n₂ n₃ n₄ : ℕ} where
   pub results-printed : resultLength g ≤ length o₀
-      → Put (elevationText g filled) (9 + g .rows * (g .cols * 4 + 1)) 0 o₀ o₁ n₁
+      → Put (elevationText g filled) (textLength g) 0 o₀ o₁ n₁
       → Put (sheetText g 2 (λ c. getD codes c 0)) (g .rows * (g .cols * 2 + 1)) n₁ o₁ o₂ n₂
       → Put (sheetText g 8 (λ c. getD counts c 0)) (g .rows * (g .cols * 8 + 1)) n₂ o₂ o₃ n₃
       → Put (sheetText g 8 (λ c. getD labels c 0)) (g .rows * (g .cols * 8 + 1)) n₃ o₃ o₄ n₄

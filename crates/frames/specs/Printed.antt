@@ -14,7 +14,7 @@ pub record Printed (text out₀ out₁ : List ℕ) (written : ℕ) : Type 0 wher
   pub stored : out₁ ≡ text ++ drop (length text) out₀
 
 -- a sheet of elevations of g's size, and room for it as text
-pub record Sheet (g : Grid) (elevations : List ℤ) (out : List ℕ) : Type 0 where
+pub record ElevationSheet (g : Grid) (elevations : List ℤ) (out : List ℕ) : Type 0 where
   pub few-rows : g .rows ≤ 4000
   pub few-cols : g .cols ≤ 4000
   pub elevations-size : length elevations ≡ size g

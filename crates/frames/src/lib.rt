@@ -1,12 +1,12 @@
 // "The frames", printing, as upper-case text at the front of a lent buffer: an elevation sheet (header, rows), the four results of a sheet
-// (the same with the filled sheet, then codes, counts, labels), and the line of a refusal. What is stored is the definition's text, byte for byte, and the bytes past it are untouched:
-// one run of stores after the other is one run.
-ghost use Prim.Native.Nat.{_+_, _*_, _≤_};
+// (that of the filled sheet, then codes, counts, labels), and the line of a refusal. What is stored is the definition's text, byte for
+// byte, and the bytes past it are untouched: one run of stores after the other is one run.
+ghost use Prim.Native.Nat.{_≤_};
 ghost use lib.ListN.{length};
 ghost use Rattle.grid.specs.Sheet.{SixteenBits};
-ghost use Rattle.grid.specs.Frames.{headerText, elevationText, resultText, refusalText};
+ghost use Rattle.grid.specs.Frames.{textLength, headerText, elevationText, resultText, refusalText};
 ghost use Rattle.text_lines.specs.Put.{Put};
-ghost use Rattle.frames.specs.Printed.{Printed, Sheet, Sheets};
+ghost use Rattle.frames.specs.Printed.{Printed, ElevationSheet, Sheets};
 use grid::Answer;
 use grid::Grid;
 use text_lines::codes_sheet;
@@ -28,9 +28,8 @@ fn header(g: Grid, out: &mut [u8]) -> usize
 
 // "the frames of an elevation sheet"
 pub fn write_elevations(g: Grid, elevations: &[i16], out: &mut [u8]) -> usize
-    requires { ⌜ Sheet g (now elevations) (now out) ⌝ }
-    ensures { λ r. ⌜ Put (elevationText g (now (elevations .entry))) (9 + g .rows * (g .cols * 4 + 1)) 0 (now (out .entry))
-        (now (out .exit)) r ⌝ }
+    requires { ⌜ ElevationSheet g (now elevations) (now out) ⌝ }
+    ensures { λ r. ⌜ Put (elevationText g (now (elevations .entry))) (textLength g) 0 (now (out .entry)) (now (out .exit)) r ⌝ }
     ensures { λ r. ⌜ SixteenBits (now (elevations .entry)) ⌝ }
 {
     let rows = header(g, out);

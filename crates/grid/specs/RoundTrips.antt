@@ -1,5 +1,5 @@
 -- What is shown of two text calls (document 02, Wish 5), about the lists that they leave, by their promises: named types, each with a law.
--- That the elevations have 16 bits is no premise here: the writer's promise has it.
+-- That the elevations have 16 bits is no premise here: the writer's promise has it (`sixteen-bits`).
 use mathlib.Core.Path.{_≡_}
 use mathlib.Core.List.{List, _++_, map}
 use Prim.Native.Nat.{ℕ, _*_, _≤_}
@@ -31,8 +31,8 @@ ReadThenWrite =
     (w ≡ record { number = 0; place = 0; count = length text }) × (text₁ ≡ map raised text ++ drop (length text) text₀)
 
 -- two calls of write that are accepted leave equal bytes exactly where the sheets are equal
-abbrev pub WriteTwice : Type 0
-WriteTwice =
+abbrev pub EqualBytes : Type 0
+EqualBytes =
     (g h : Grid) (e f : List ℤ) (text₀ text₁ : List ℕ) (w : Counted) (other₀ other₁ : List ℕ) (v : Counted) →
     WritePromise g e text₀ text₁ w → T (isAccepted (ofCounted w)) → WritePromise h f other₀ other₁ v → T (isAccepted (ofCounted v)) →
     (take (w .count) text₁ ≡ take (v .count) other₁ → SameSheet g h e f)

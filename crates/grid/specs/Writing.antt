@@ -13,21 +13,25 @@ use Rattle.grid.specs.Sheet.{size, SixteenBits}
 use Rattle.grid.specs.Checks.{refusal, accepted, isAccepted, ask, askSheets}
 use Rattle.grid.specs.Frames.{textGrid, textLength, readCheck, textSheet, elevationText}
 
--- "A text buffer too short gets 8; a sheet above 2,304 cells gets 4": 4 first, as in the call with text that there was, then 5, 6 and 7
+-- "A text buffer too short gets 8; a sheet above 2,304 cells gets 4": 4, 5 and 6 in the order of `readCheck`, then 7 and 8
 unfoldable pub writeCheck : Grid → (elevations room : ℕ) → Answer
 writeCheck g elevations room =
     ask (leb (size g) 2304) (refusal 4 0)
     (askSheets g (elevations ∷ []) [] (ask (leb (textLength g) room) (refusal 8 0) accepted))
 
--- 8 goes by the length of the very text
+-- the length that 8 asks for is that of the text
 abbrev pub WrittenLength : Type 0
 WrittenLength = (g : Grid) (e : List ℤ) → length (elevationText g e) ≡ textLength g
 
--- a sheet that the writer accepts, where the buffer is long enough. Every lent `&[i16]` meets the first condition; that the writer's own
--- input does so is part of what is proved of it (`WritePromise`), so no caller has to show it
+-- a sheet that the writer accepts, where the buffer is long enough. Every lent `&[i16]` meets the first condition: `WritePromise` says so
+-- of the writer's own input, so that no caller has to show it
 pub record Writable (g : Grid) (e : List ℤ) : Type 0 where
   pub sixteen-bits : SixteenBits e
   pub accepts : T (isAccepted (writeCheck g (length e) (textLength g)))
+
+-- no text of such a sheet is too long for question 1
+abbrev pub WrittenFits : Type 0
+WrittenFits = (g : Grid) (e : List ℤ) → Writable g e → textLength g ≤ 11529
 
 -- ---- "Reading what it wrote yields its rows, columns and elevations"
 

@@ -49,8 +49,8 @@ part-table : (w : List ℕ) (n start : ℕ) (f : ℕ → ℕ) → ((i : ℕ) →
 unfolding partOf
 part-table w n start f h = table-ext n (λ i. getD w (start + i) 0) f h
 
-pub marked-all : (g : Grid) (e : List ℤ) (w₀ w : List ℕ) → length e ≡ size g → SixteenBits e → Words g e w₀ → MarkedTo (size g) w₀ w (size g) →
-    Numbered g e w 0 0
+pub marked-all : (g : Grid) (e : List ℤ) (w₀ w : List ℕ) → length e ≡ size g → SixteenBits e → Words g e w₀ →
+    MarkedTo (size g) w₀ w (size g) → Numbered g e w 0 0
 marked-all g e w₀ w long range W M =
     record {
       range = range;

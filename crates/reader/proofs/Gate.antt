@@ -1,21 +1,22 @@
 -- The questions one after the other: each answer is that of `readCheck`, and what is known after the last yes.
 use mathlib.Core.Path.{_≡_, refl, sym, ap, _∙_}
-use mathlib.Core.Bool.{Bool, true, false, cond, _&&_}
+use mathlib.Core.Bool.{true, false, cond}
 use mathlib.Core.List.{List, _++_}
-use Prim.Native.Nat.{ℕ, _+_, _*_, _≤_, _<_}
+use Prim.Native.Nat.{ℕ, _+_, _≤_, _<_}
 use native.Mathlib.Nat.{mul-le-mul}
 use native.Mathlib.Omega.{arith}
-use lib.Dec.{leb, eqb}
 use lib.IntN.{ℤ}
 use lib.ListN.{length, drop}
-use borrow.Author.Tests.{le-leb, lt-leb, eq-eqb, ne-eqb, leb-true, eqb-true}
+use borrow.Author.Tests.{le-leb, lt-leb, eq-eqb, ne-eqb}
 use Rattle.grid.specs.declared.Grid.{Grid}
 use Rattle.grid.specs.declared.Answer.{Answer}
 use Rattle.grid.specs.declared.Dimensions.{Dimensions}
 use Rattle.grid.specs.Sheet.{size}
-use Rattle.grid.specs.Checks.{refusal, accepted, isAccepted, ask, inRange, askSize}
+use Rattle.grid.specs.Checks.{refusal, accepted, isAccepted, inRange, askSize}
 use Rattle.grid.specs.Frames.{textGrid, isShaped, firstBadByte, readCheck, textSheet}
 use Rattle.grid.specs.Promises.{ReadPromise}
+use Rattle.checks.proofs.Gate.{passed, is-accepted, by-answer}
+use Rattle.text_laws.proofs.Asked.{text-gate, Announced, announces, few-gate}
 use Rattle.reader.specs.Parts.{textCheck, sizeCheck, withoutSize}
 
 -- ---- one question at a time
@@ -66,60 +67,18 @@ cells-small g h k = omega (arith, mul-le-mul h k)
 
 -- ---- all of them
 
-text-first : (a b c : Bool) (p : ℕ) (later : Answer) →
-    ask a (refusal 1 0) (ask b (refusal 2 p) (ask c (refusal 3 0) later))
-    ≡ cond (isAccepted (ask a (refusal 1 0) (ask b (refusal 2 p) (ask c (refusal 3 0) accepted)))) later
-    (ask a (refusal 1 0) (ask b (refusal 2 p) (ask c (refusal 3 0) accepted)))
-text-first true true true p later = refl
-text-first true true false p later = refl
-text-first true false c p later = refl
-text-first false b c p later = refl
-
 pub in-parts : (text : List ℕ) (room : ℕ) →
     readCheck text room ≡ cond (isAccepted (textCheck text)) (sizeCheck (textGrid text) room) (textCheck text)
 unfolding readCheck textCheck sizeCheck
-in-parts text room =
-    text-first (leb (length text) 11529) (eqb (firstBadByte text) (length text)) (isShaped text) (firstBadByte text)
-    (sizeCheck (textGrid text) room)
-
-last-of-three : (a b c : Bool) (p : ℕ) → (ask a (refusal 1 0) (ask b (refusal 2 p) (ask c (refusal 3 0) accepted))) .number ≡ 0 → c ≡ true
-last-of-three true true true p h = refl
-last-of-three true true false p h = absurd (omega arith)
-last-of-three true false c p h = absurd (omega arith)
-last-of-three false b c p h = absurd (omega arith)
-
--- a text that passes question 3 has the length that its header announces
-pub record Announced (text : List ℕ) : Type 0 where
-  pub long : 9 ≤ length text
-  pub announced : length text ≡ 9 + (textGrid text) .rows * (4 * (textGrid text) .cols + 1)
-
-first-two : (a b c d : Bool) → (a && b && c && d) ≡ true → (a ≡ true) × (b ≡ true)
-first-two true true c d h = (refl, refl)
-first-two true false c d h = (refl, h)
-first-two false true c d h = (h, refl)
-first-two false false c d h = (h, h)
+in-parts text room = by-answer (text-gate text) (sizeCheck (textGrid text) room)
 
 pub text-accepted : (text : List ℕ) → (textCheck text) .number ≡ 0 → Announced text
-unfolding textCheck isShaped
-text-accepted text h =
-    let s = last-of-three (leb (length text) 11529) (eqb (firstBadByte text) (length text)) (isShaped text) (firstBadByte text) h in
-    let p = first-two (leb 9 (length text)) (eqb (length text) (9 + (textGrid text) .rows * (4 * (textGrid text) .cols + 1))) _ _ s in
-    record { long = leb-true 9 (length text) (p .0); announced = eqb-true (length text) _ (p .1) }
-
-last-of-four : (a b c d : Bool) →
-    (ask a (refusal 4 0) (ask b (refusal 5 0) (ask c (refusal 6 0) (ask d (refusal 8 0) accepted)))) .number ≡ 0 →
-    (d ≡ true) × (ask a (refusal 4 0) (ask b (refusal 5 0) (ask c (refusal 6 0) (ask d (refusal 8 0) accepted))) ≡ accepted)
-last-of-four true true true true h = (refl, refl)
-last-of-four true true true false h = absurd (omega arith)
-last-of-four true true false d h = absurd (omega arith)
-last-of-four true false c d h = absurd (omega arith)
-last-of-four false b c d h = absurd (omega arith)
+unfolding textCheck
+text-accepted text h = announces text (passed (text-gate text) refl h .fact .shaped)
 
 pub size-accepted : (g : Grid) (room : ℕ) → (sizeCheck g room) .number ≡ 0 → (size g ≤ room) × (sizeCheck g room ≡ accepted)
-unfolding sizeCheck askSize
-size-accepted g room h =
-    let p = last-of-four (leb (size g) 2304) (inRange (g .rows)) (inRange (g .cols)) (leb (size g) room) h in
-    (leb-true (size g) room (p .0), p .1)
+unfolding sizeCheck
+size-accepted g room h = (passed (few-gate g room) refl h .fact .room-for, is-accepted (few-gate g room) refl h)
 
 -- ---- the promise
 

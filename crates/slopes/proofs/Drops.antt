@@ -16,7 +16,7 @@ use borrow.Author.Count.{below-more}
 use borrow.Author.Tests.{ltb-true, lt-ltb, le-ltb, eq-eqb, ne-eqb, eqb-false}
 use Rattle.grid.specs.declared.Grid.{Grid}
 use Rattle.grid.specs.Below.{table, anyBelow}
-use Rattle.grid.specs.Sheet.{size, void, top, at, isData, neighbour, codeAt}
+use Rattle.grid.specs.Sheet.{size, void, at, isData, neighbour, codeAt, IsElevation}
 use Rattle.grid.specs.Outlet.{leavesAt, isOutlet}
 use Rattle.grid.specs.Directions.{dropTo, squaredDistance, beats, beaten, isSteepest, steepestSum}
 use Rattle.grid_laws.proofs.Tests.{test, and-false-left, cond-true, cond-false, or-none-right}
@@ -68,8 +68,8 @@ gathered-more g e c seen l p m k r h G em K er =
           below-more (λ q. getD (set l p r) q 0 ≡ seen (keyOf (at e (neighbour g c q)))) p
           (λ q b. getD-set-other l p q r 0 (λ e. let z : ⊥ = omega arith in absurd z) ∙ G .keys q b)
           (getD-set-same l p r 0 (rw (G .eight) h) ∙ er ∙ ap seen (K .0 ∙ ap (λ (x : ℕ). keyOf (at e x)) em));
-      known = below-more (λ q. (void ≤ℤ at e (neighbour g c q)) × (at e (neighbour g c q) ≤ℤ top)) p (G .known)
-          (subst (λ (x : ℕ). (void ≤ℤ at e x) × (at e x ≤ℤ top)) em (K .1 .1));
+      known = below-more (λ q. IsElevation (at e (neighbour g c q))) p (G .known)
+          (subst (λ (x : ℕ). IsElevation (at e x)) em (K .1 .1));
     }
 
 pub gathered-all : (g : Grid) (e : List ℤ) (c : ℕ) (seen : ℕ → ℕ) (l : List ℕ) → Gathered g e c seen l 8 →

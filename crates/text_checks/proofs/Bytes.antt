@@ -3,14 +3,13 @@ use mathlib.Core.Path.{_≡_, refl, sym, ap, _∙_}
 use mathlib.Core.Bool.{Bool, true, false, not, cond, _&&_}
 use mathlib.Core.List.{List}
 use mathlib.Core.Logic.{_⊎_, inl, inr, ⊎-elim}
-use Prim.Native.Nat.{ℕ, _+_, _-_, _*_, _≤_, _<_}
-use native.Mathlib.Nat.{mul-le-mul}
+use Prim.Native.Nat.{ℕ, _-_, _≤_, _<_}
 use native.Mathlib.Omega.{arith}
 use lib.Dec.{eqb}
 use lib.ListN.{length, getD}
 use borrow.Author.Tests.{lt-ltb, le-ltb, le-leb, lt-leb, eq-eqb, ne-eqb}
 use Rattle.grid.specs.declared.Grid.{Grid}
-use Rattle.grid.specs.Frames.{lineFeed, hexValue, isTextByte, number4, textGrid, endsLine, isShaped, firstBadByte}
+use Rattle.grid.specs.Frames.{lineFeed, hexValue, isTextByte, number4, textGrid, endsLine, textLength, isShaped, firstBadByte}
 use Rattle.grid_laws.proofs.Below.{first-none, first-is, none-of, any-of}
 use Rattle.text_checks.specs.Shape.{isPlaced, feedsEndLines}
 
@@ -99,16 +98,16 @@ module _ (text : List ℕ) where
   too-short h = rw (lt-leb 9 (length text) h)
 
   module _ (g : Grid) (same : g ≡ textGrid text) (long : 9 ≤ length text) where
-    pub wrong-length : (length text ≡ 9 + g .rows * (4 * g .cols + 1) → ⊥) → isShaped text ≡ false
+    pub wrong-length : (length text ≡ textLength g → ⊥) → isShaped text ≡ false
     unfolding isShaped
     wrong-length n =
-        let e : (length text ≡ 9 + (textGrid text) .rows * (4 * (textGrid text) .cols + 1)) → ⊥ = rw same at n in
+        let e : (length text ≡ textLength (textGrid text)) → ⊥ = rw same at n in
         rw (le-leb 9 (length text) long, ne-eqb (length text) _ e)
 
-    pub right-length : length text ≡ 9 + g .rows * (4 * g .cols + 1) → isShaped text ≡ feedsEndLines text (g .cols)
+    pub right-length : length text ≡ textLength g → isShaped text ≡ feedsEndLines text (g .cols)
     unfolding isShaped feedsEndLines
     right-length q =
-        let e : length text ≡ 9 + (textGrid text) .rows * (4 * (textGrid text) .cols + 1) = rw same at q in
+        let e : length text ≡ textLength (textGrid text) = rw same at q in
         rw (same, le-leb 9 (length text) long, eq-eqb (length text) _ e)
 
 -- the two numbers of the header
@@ -116,9 +115,3 @@ pub header-grid : (text : List ℕ) {rows cols : ℕ} → rows ≡ number4 text 
     _≡_ {A = Grid} record { rows = rows; cols = cols; sides = 0 } (textGrid text)
 unfolding textGrid
 header-grid text e f = rw (e, f)
-
--- the length that a header announces fits a word
-pub announced-small : (rows cols : ℕ) → rows ≤ 69904 → cols ≤ 69904 → rows * (4 * cols + 1) ≤ 19546346768
-announced-small rows cols h k =
-    let l : 4 * cols + 1 ≤ 279617 = omega arith in
-    omega (arith, mul-le-mul h l)

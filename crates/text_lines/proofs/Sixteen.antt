@@ -6,8 +6,7 @@ use native.Mathlib.Omega.{arith}
 use native.Mathlib.Decide.{decLt}
 use lib.IntN.{ℤ}
 use lib.ListN.{length}
-use lib.Signed.{_≤ℤ_}
-use Rattle.grid.specs.Sheet.{void, top, at, SixteenBits}
+use Rattle.grid.specs.Sheet.{at, SixteenBits, IsElevation}
 use Rattle.grid_laws.proofs.Cells.{all-sixteen}
 use Rattle.text_lines.specs.Sixteen.{SixteenFrom}
 
@@ -15,16 +14,16 @@ module _ {e : List ℤ} {c : ℕ} where
   pub none-read : SixteenFrom e c 0
   none-read = record { each = λ i h l. absurd (let z : ⊥ = omega arith in z) }
 
-  pub one-read : (void ≤ℤ at e c) × (at e c ≤ℤ top) → SixteenFrom e c 1
+  pub one-read : IsElevation (at e c) → SixteenFrom e c 1
   one-read b = record {
-    each = λ i h l. let q : c ≡ i = omega arith in subst (λ (x : ℕ). (void ≤ℤ at e x) × (at e x ≤ℤ top)) q b;
+    each = λ i h l. let q : c ≡ i = omega arith in subst (λ (x : ℕ). IsElevation (at e x)) q b;
   }
 
   -- one part after the other
   pub more-read : {n m d : ℕ} → d ≡ c + n → SixteenFrom e c n → SixteenFrom e d m → SixteenFrom e c (n + m)
   more-read {n} {m} {d} q f h = record { each = λ i low high. go i low high (decLt i (c + n)) }
     where
-      go : (i : ℕ) → c ≤ i → i < c + (n + m) → Dec (i < c + n) → (void ≤ℤ at e i) × (at e i ≤ℤ top)
+      go : (i : ℕ) → c ≤ i → i < c + (n + m) → Dec (i < c + n) → IsElevation (at e i)
       go i low high (yes l) = f .each i low l
       go i low high (no l) = h .each i (omega arith) (omega arith)
 

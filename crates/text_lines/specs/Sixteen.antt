@@ -2,9 +2,8 @@
 use mathlib.Core.List.{List}
 use Prim.Native.Nat.{ℕ, _+_, _≤_, _<_}
 use lib.IntN.{ℤ}
-use lib.Signed.{_≤ℤ_}
-use Rattle.grid.specs.Sheet.{void, top, at}
+use Rattle.grid.specs.Sheet.{at, IsElevation}
 
 -- those of `n` cells from cell `c` on
 pub record SixteenFrom (e : List ℤ) (c n : ℕ) : Type 0 where
-  pub each : (i : ℕ) → c ≤ i → i < c + n → (void ≤ℤ at e i) × (at e i ≤ℤ top)
+  pub each : (i : ℕ) → c ≤ i → i < c + n → IsElevation (at e i)

@@ -5,8 +5,7 @@
 ghost use mathlib.Core.Path.{_≡_};
 ghost use Prim.Native.Nat.{_+_, _*_, _<_, _≤_};
 ghost use lib.ListN.{length, getD};
-ghost use lib.Signed.{_≤ℤ_};
-ghost use Rattle.grid.specs.Sheet.{size, void, top, at, SixteenBits};
+ghost use Rattle.grid.specs.Sheet.{size, at, SixteenBits, IsElevation};
 ghost use Rattle.grid.specs.Frames.{upperDigit, toTwos, hexText, sheetText};
 ghost use Rattle.text_laws.proofs.Digits.{lineText};
 ghost use Rattle.text_lines.specs.Put.{Put};
@@ -49,7 +48,7 @@ fn twos(e: i16) -> u32
 fn twos_at(elevations: &[i16], c: usize) -> u32
     requires { ⌜ c < length (now elevations) ⌝ }
     ensures { λ r. ⌜ r ≡ toTwos (at (now (elevations .entry)) c) ⌝ }
-    ensures { λ r. ⌜ (void ≤ℤ at (now (elevations .entry)) c) × (at (now (elevations .entry)) c ≤ℤ top) ⌝ }
+    ensures { λ r. ⌜ IsElevation (at (now (elevations .entry)) c) ⌝ }
 {
     twos(elevations[c])
 }

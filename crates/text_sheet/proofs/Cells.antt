@@ -1,7 +1,7 @@
 -- A line number by number and a sheet line by line: what the loops keep, at the start, after one more, and at the end.
 use mathlib.Core.Path.{_≡_, refl, sym, ap, _∙_}
 use mathlib.Core.List.{List, [], _∷_, _++_}
-use Prim.Native.Nat.{ℕ, _+_, _*_, _/_, _%_, _≤_}
+use Prim.Native.Nat.{ℕ, _+_, _*_, _≤_}
 use native.Mathlib.Nat.{suc-mul, zero-mul, zero-add}
 use native.Mathlib.Numerals.{add-one}
 use native.Mathlib.Omega.{arith}
@@ -12,7 +12,7 @@ use lib.Seq.{sets, length-sets}
 use Rattle.grid.specs.declared.Grid.{Grid}
 use Rattle.grid.specs.Below.{table}
 use Rattle.grid.specs.Sheet.{size}
-use Rattle.grid.specs.Frames.{number4, fromTwos, textGrid, textSheet}
+use Rattle.grid.specs.Frames.{number4, textGrid, fromTwos, cellPlace, textSheet}
 use Rattle.cursor.specs.declared.Cursor.{Cursor}
 use Rattle.grid_laws.proofs.Below.{length-table, table-ext}
 use Rattle.text_laws.proofs.Runs.{sets-next, sets-front, table-add, table-next}
@@ -53,7 +53,7 @@ module _ (text : List ℕ) (from c : ℕ) (e₀ : List ℤ) where
 
 -- the elevation of cell c, where each line has cols
 abbrev cellValue : List ℕ → ℕ → ℕ → ℤ
-cellValue text cols c = fromTwos (number4 text (9 + (c / cols) * (4 * cols + 1) + 4 * (c % cols)))
+cellValue text cols c = fromTwos (number4 text (cellPlace cols c))
 
 -- r lines are stored
 pub record LinesTo (text : List ℕ) (cols : ℕ) (e₀ e : List ℤ) (next : Cursor) (c r : ℕ) : Type 0 where

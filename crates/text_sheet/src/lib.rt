@@ -6,7 +6,7 @@ ghost use mathlib.Core.List.{_++_};
 ghost use Prim.Native.Nat.{_+_, _*_, _≤_};
 ghost use lib.ListN.{length, drop};
 ghost use Rattle.grid.specs.Sheet.{size};
-ghost use Rattle.grid.specs.Frames.{textGrid, textSheet};
+ghost use Rattle.grid.specs.Frames.{textGrid, textLength, textSheet};
 ghost use Rattle.text_sheet.specs.Rows.{LineRead};
 use cursor::Cursor;
 use grid::Grid;
@@ -28,7 +28,7 @@ fn read_line(start: Cursor, text: &[u8], cols: usize, elevations: &mut [i16], c:
 }
 
 pub fn read_lines(g: Grid, text: &[u8], elevations: &mut [i16])
-    requires { ⌜ (g ≡ textGrid (now text)) × (length (now text) ≡ 9 + g .rows * (4 * g .cols + 1)) × (size g ≤ length (now elevations)) ⌝ }
+    requires { ⌜ (g ≡ textGrid (now text)) × (length (now text) ≡ textLength g) × (size g ≤ length (now elevations)) ⌝ }
     ensures { λ r. ⌜ now (elevations .exit) ≡ textSheet (now (text .entry)) ++ drop (size g) (now (elevations .entry)) ⌝ }
 {
     let rows = g.rows;

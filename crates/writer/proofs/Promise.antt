@@ -2,8 +2,8 @@
 use mathlib.Core.Path.{_≡_, refl, sym, _∙_, ap, ap₂, subst}
 use mathlib.Core.Bool.{true, false}
 use mathlib.Core.List.{List, [], _∷_}
-use Prim.Native.Nat.{ℕ, _+_, _*_, _/_, _≤_, _<_}
-use native.Mathlib.Nat.{mul-comm, zero-mul, mul-le-mul, le-div-iff-mul-le}
+use Prim.Native.Nat.{ℕ, _/_, _≤_, _<_}
+use native.Mathlib.Nat.{mul-comm, zero-mul, le-div-iff-mul-le}
 use native.Mathlib.Omega.{arith}
 use lib.Dec.{leb}
 use lib.IntN.{ℤ}
@@ -19,20 +19,20 @@ use Rattle.grid.specs.Writing.{writeCheck, ReadsAs}
 use Rattle.grid.specs.Promises.{WritePromise}
 use Rattle.grid_laws.proofs.Tests.{cond-true, cond-false, same-test}
 use Rattle.checks.specs.Sizes.{Fits}
-use Rattle.checks.proofs.Gate.{Gate, kept, passed, answered-no, is-accepted, next-no, next-yes}
+use Rattle.checks.proofs.Gate.{Gate, kept, number-zero, passed, answered-no, is-accepted, next-no, next-yes}
 use Rattle.checks.proofs.Asked.{Sheets, sheets-gate, same-lists, have-again}
 use Rattle.text_lines.specs.Put.{Put}
-use Rattle.frames.specs.Printed.{Printed, Sheet}
-use Rattle.frames.proofs.Outputs.{put-printed, one-room}
-use Rattle.writing_laws.proofs.Gates.{Sized, number-zero, sized, write-passes}
+use Rattle.frames.specs.Printed.{Printed, ElevationSheet}
+use Rattle.frames.proofs.Outputs.{put-printed}
+use Rattle.writing_laws.proofs.Asked.{Printable, printable, write-passes, short}
 use Rattle.writing_laws.proofs.Written.{reads-as}
 
 -- ---- 4
 
--- no product is asked for
 pub no-rows : (g : Grid) → g .rows ≡ 0 → leb (size g) 2304 ≡ true
 no-rows g e = rw (e, zero-mul (g .cols)) refl
 
+-- rows and columns may be any numbers, so their product may not fit a word
 pub by-quotient : (g : Grid) → (g .rows ≡ 0 → ⊥) → leb (g .cols) (2304 / g .rows) ≡ leb (size g) 2304
 by-quotient g n =
     same-test _ _
@@ -81,43 +81,41 @@ module _ (g : Grid) (given room : ℕ) where
   unfolding writeCheck
   few-enough y e = e ∙ sym (cond-true _ _ y)
 
--- the length of a text fits a word
-pub text-small : (g : Grid) → g .rows ≤ 4000 → g .cols ≤ 4000 → g .rows * (4 * g .cols + 1) ≤ 64004000
-text-small g r c =
-    let l : 4 * g .cols + 1 ≤ 16001 = omega arith in
-    omega (arith, mul-le-mul r l)
-
 -- ---- the promise
 
 module _ (g : Grid) (e : List ℤ) (text₀ : List ℕ) (answer : Answer) (is : answer ≡ writeCheck g (length e) (length text₀)) where
   pub refused : (answer .number ≡ 0 → ⊥) → WritePromise g e text₀ text₀ record { number = answer .number; place = answer .place; count = 0 }
-  refused n = record { answer = is; count = kept n _; result = kept n _; reads-back = λ t. absurd (n (number-zero answer t)) }
+  refused n =
+      record {
+        answer = is;
+        count = kept n _;
+        result = kept n _;
+        sixteen-bits = λ t. absurd (n (number-zero answer t));
+        reads-back = λ t. absurd (n (number-zero answer t));
+      }
 
-  pub all-sized : answer .number ≡ 0 → Sized g (length e) (length text₀)
-  all-sized z = sized g (length e) (length text₀) (ap (λ (a : Answer). a .number) (sym is) ∙ z)
+  module _ (z : answer .number ≡ 0) where
+    all-asked : Printable g (length e) (length text₀)
+    all-asked = printable g (length e) (length text₀) (ap (λ (a : Answer). a .number) (sym is) ∙ z)
 
-  pub printable : answer .number ≡ 0 → Sheet g e text₀
-  printable z =
-      let s = all-sized z in
-      record { few-rows = s .fits .rows-high; few-cols = s .fits .cols-high; elevations-size = s .long; room = s .room-for }
+    pub sheet-fits : ElevationSheet g e text₀
+    sheet-fits =
+        let s = all-asked in
+        record { few-rows = s .fits .rows-high; few-cols = s .fits .cols-high; elevations-size = s .long; room = s .room-for }
 
-  module _ (z : answer .number ≡ 0) {text₁ : List ℕ} {n : ℕ}
-      (put : Put (elevationText g e) (9 + g .rows * (g .cols * 4 + 1)) 0 text₀ text₁ n) where
-    pub count-small : n ≤ 64004009
-    count-small =
-        let s = all-sized z in
-        omega (arith, put .next-place, one-room (g .rows) (g .cols), text-small g (s .fits .rows-high) (s .fits .cols-high))
+    module _ {text₁ : List ℕ} {n : ℕ} (put : Put (elevationText g e) (textLength g) 0 text₀ text₁ n) where
+      pub count-small : n ≤ 11529
+      count-small = omega (arith, put .next-place, short g all-asked)
 
-    pub written : SixteenBits e → WritePromise g e text₀ text₁ record { number = 0; place = 0; count = n }
-    written bits =
-        let s = all-sized z in
-        let room = s .room-for in
-        let p : Printed (elevationText g e) text₀ text₁ n = put-printed (omega (arith, one-room (g .rows) (g .cols))) put in
-        record {
-          answer = sym (write-passes g (length e) (length text₀) s);
-          count = p .length-of-text;
-          result = p .stored;
-          reads-back = λ _.
-              subst (λ (t : List ℕ). ReadsAs t g e)
-              (sym (ap₂ take (p .length-of-text) (p .stored) ∙ take-append-seam (elevationText g e) _)) (reads-as g e bits s);
-        }
+      pub written : SixteenBits e → WritePromise g e text₀ text₁ record { number = 0; place = 0; count = n }
+      written bits =
+          let p : Printed (elevationText g e) text₀ text₁ n = put-printed (all-asked .room-for) put in
+          record {
+            answer = sym (write-passes g (length e) (length text₀) all-asked);
+            count = p .length-of-text;
+            result = p .stored;
+            sixteen-bits = λ _. bits;
+            reads-back = λ _.
+                subst (λ (t : List ℕ). ReadsAs t g e)
+                (sym (ap₂ take (p .length-of-text) (p .stored) ∙ take-append-seam (elevationText g e) _)) (reads-as g e bits all-asked);
+          }

@@ -1,6 +1,7 @@
 // The call `write` (document 02, Wish 5): "a writer that gives the frames of an elevation sheet". Questions 4, 5, 6, 7 and 8 are asked in
-// that order; "A no changes no result buffer", and the length reported beside it is 0. Once all are answered, `frames` stores the text.
-// That reading undoes it is a law about the text (`writing_laws`), and so part of the promise.
+// that order; "A no changes no result buffer", and the length reported beside it is 0. After a yes to all of them `frames` stores the
+// text. The promise has it that what is stored reads back: the law about texts (`writing_laws`) asks for elevations of 16 bits, which the
+// printing has seen each of them to be.
 ghost use mathlib.Core.Path.{_≡_};
 ghost use mathlib.Core.List.{[], _∷_};
 ghost use Prim.Native.Nat.{_≤_};
@@ -36,7 +37,7 @@ fn text_length(g: Grid) -> usize
     9 + rows * (4 * cols + 1)
 }
 
-// 5 to 8
+// 5 to 8. `inputs` asks 7 of two sheets: the one is named twice.
 fn check_sizes(g: Grid, given: usize, room: usize) -> Answer
     ensures { λ r. ⌜ r ≡ askSheets g (given ∷ []) [] (ask (leb (textLength g) room) (refusal 8 0) accepted) ⌝ }
 {

@@ -2,7 +2,7 @@
 use mathlib.Core.Path.{_≡_, refl, sym, _∙_, ap, ap₂, subst}
 use mathlib.Core.Bool.{true}
 use mathlib.Core.List.{List, _++_, map}
-use Prim.Native.Nat.{ℕ, _*_}
+use Prim.Native.Nat.{ℕ, _*_, _≤_}
 use native.Mathlib.Omega.{arith}
 use lib.Dec.{T}
 use lib.IntN.{ℤ}
@@ -11,17 +11,16 @@ use lib.Seq.{take-append-seam}
 use Rattle.grid.specs.declared.Grid.{Grid}
 use Rattle.grid.specs.declared.Answer.{Answer}
 use Rattle.grid.specs.declared.Counted.{Counted}
-use Rattle.grid.specs.declared.Dimensions.{Dimensions}
-use Rattle.grid.specs.Sheet.{size}
 use Rattle.grid.specs.Checks.{accepted, isAccepted, ofCounted, ofDimensions}
-use Rattle.grid.specs.Frames.{readCheck, textGrid, textSheet, elevationText}
+use Rattle.grid.specs.Frames.{textGrid, textLength, textSheet, elevationText}
 use Rattle.grid.specs.Writing.{raised}
-use Rattle.grid.specs.Promises.{ReadPromise, WritePromise}
-use Rattle.grid.specs.RoundTrips.{WriteThenRead, ReadThenWrite, WriteTwice}
+use Rattle.grid.specs.Promises.{WritePromise}
+use Rattle.grid.specs.RoundTrips.{WriteThenRead, ReadThenWrite, EqualBytes}
 use Rattle.grid_laws.proofs.Tests.{T-true, cond-true}
-use Rattle.writing_laws.proofs.Gates.{number-zero, same-fits, write-passes, readable}
-use Rattle.writing_laws.proofs.Places.{written-length}
-use Rattle.writing_laws.proofs.Again.{read-writes-back, sheet-length, told, one-text}
+use Rattle.checks.proofs.Gate.{number-zero}
+use Rattle.text_laws.proofs.Asked.{announces, read-asked, read-rows, read-cols, read-sheet}
+use Rattle.writing_laws.proofs.Asked.{write-passes, same-printable}
+use Rattle.writing_laws.proofs.Rewritten.{read-writes-back, read-printable, text-tells, text-of-same}
 
 -- ---- write, then read
 
@@ -44,52 +43,29 @@ write-then-read g e text₀ text₁ w P ok sheet₀ sheet₁ r R room =
 
 -- ---- read, then write
 
-module _ (text : List ℕ) (sheet₀ sheet₁ : List ℤ) (r : Dimensions) (R : ReadPromise text sheet₀ sheet₁ r)
-    (ok : T (isAccepted (ofDimensions r))) where
-  passed : T (isAccepted (readCheck text (length sheet₀)))
-  passed = subst (λ (a : Answer). T (isAccepted a)) (R .answer) ok
-
-  rows-are : r .rows ≡ (textGrid text) .rows
-  rows-are = R .rows ∙ cond-true _ _ (T-true (isAccepted (ofDimensions r)) ok)
-
-  cols-are : r .cols ≡ (textGrid text) .cols
-  cols-are = R .cols ∙ cond-true _ _ (T-true (isAccepted (ofDimensions r)) ok)
-
-  elevations-are : take (r .rows * r .cols) sheet₁ ≡ textSheet text
-  elevations-are =
-      ap₂ take (ap₂ _*_ rows-are cols-are ∙ sym (sheet-length text)) (R .result ∙ cond-true _ _ (T-true (isAccepted (ofDimensions r)) ok))
-      ∙ take-append-seam (textSheet text) _
-
 pub read-then-write : ReadThenWrite
 read-then-write text sheet₀ sheet₁ r R ok g rows cols text₀ text₁ w P room =
-    let p = readable text (length sheet₀) (number-zero (readCheck text (length sheet₀)) (passed text sheet₀ sheet₁ r R ok)) in
-    let rs : g .rows ≡ (textGrid text) .rows = rows ∙ rows-are text sheet₀ sheet₁ r R ok in
-    let cs : g .cols ≡ (textGrid text) .cols = cols ∙ cols-are text sheet₀ sheet₁ r R ok in
-    let ns : size g ≡ size (textGrid text) = ap₂ _*_ rs cs in
-    let W = subst (λ (s : List ℤ). WritePromise g s text₀ text₁ w) (elevations-are text sheet₀ sheet₁ r R ok) P in
-    let made : elevationText g (textSheet text) ≡ map raised text =
-    one-text g (textGrid text) (textSheet text) (textSheet text) (record { rows = rs; cols = cs; elevations = refl })
-    ∙ read-writes-back text (length sheet₀) (passed text sheet₀ sheet₁ r R ok) in
-    let long : length (elevationText g (textSheet text)) ≡ length text = ap length made ∙ length-map text raised in
-    let l = written-length g (textSheet text) in
-    let few = p .few in
-    let a : ofCounted w ≡ accepted =
-    W .answer
-    ∙ write-passes g (length (textSheet text)) (length text₀) (record {
-      few = omega arith;
-      fits = same-fits g (textGrid text) rs cs (p .fits);
-      long = sheet-length text ∙ sym ns;
-      room-for = omega arith;
-    }) in
+    let yes = number-zero (ofDimensions r) ok in
+    let rs : g .rows ≡ (textGrid text) .rows = rows ∙ read-rows text sheet₀ sheet₁ r R yes in
+    let cs : g .cols ≡ (textGrid text) .cols = cols ∙ read-cols text sheet₀ sheet₁ r R yes in
+    let W = subst (λ (s : List ℤ). WritePromise g s text₀ text₁ w) (read-sheet text sheet₀ sheet₁ r R yes) P in
+    let raises : elevationText g (textSheet text) ≡ map raised text =
+    text-of-same g (textGrid text) (textSheet text) (textSheet text) (record { rows = rs; cols = cs; elevations = refl })
+    ∙ read-writes-back text (length sheet₀) (subst (λ (a : Answer). T (isAccepted a)) (R .answer) ok) in
+    let long : length (elevationText g (textSheet text)) ≡ length text = ap length raises ∙ length-map text raised in
+    let announced = announces text (read-asked text sheet₀ sheet₁ r R yes .0 .shaped) .announced in
+    let fits : textLength (textGrid text) ≤ length text₀ = omega arith in
+    let few = read-printable text (read-asked text sheet₀ sheet₁ r R yes .1) fits in
+    let a : ofCounted w ≡ accepted = W .answer ∙ write-passes g _ _ (same-printable g (textGrid text) rs cs few) in
     let y : isAccepted (ofCounted w) ≡ true = ap isAccepted a in (
       alike (ap (λ (x : Answer). x .number) a) (ap (λ (x : Answer). x .place) a) (W .count ∙ cond-true _ _ y ∙ long),
-      W .result ∙ cond-true _ _ y ∙ ap₂ (λ (t : List ℕ) (n : ℕ). t ++ drop n text₀) made long,
+      W .result ∙ cond-true _ _ y ∙ ap₂ (λ (t : List ℕ) (n : ℕ). t ++ drop n text₀) raises long,
     )
   where
     alike : {a b c : ℕ} → w .number ≡ a → w .place ≡ b → w .count ≡ c → w ≡ record { number = a; place = b; count = c }
     alike p q s = rw (sym p, sym q, sym s)
 
--- ---- write twice
+-- ---- write, and write another
 
 -- the bytes that an accepted call reports
 bytes : (g : Grid) (e : List ℤ) (t₀ t₁ : List ℕ) (w : Counted) → WritePromise g e t₀ t₁ w → T (isAccepted (ofCounted w)) →
@@ -98,8 +74,8 @@ bytes g e t₀ t₁ w P ok =
     let y = T-true (isAccepted (ofCounted w)) ok in
     ap₂ take (P .count ∙ cond-true _ _ y) (P .result ∙ cond-true _ _ y) ∙ take-append-seam (elevationText g e) _
 
-pub write-twice : WriteTwice
-write-twice g h e f text₀ text₁ w other₀ other₁ v P ok Q fine = (
-  told g h e f (P .reads-back ok) (Q .reads-back fine),
-  λ s. bytes g e text₀ text₁ w P ok ∙ one-text g h e f s ∙ sym (bytes h f other₀ other₁ v Q fine),
+pub equal-bytes : EqualBytes
+equal-bytes g h e f text₀ text₁ w other₀ other₁ v P ok Q fine = (
+  text-tells g h e f (P .reads-back ok) (Q .reads-back fine),
+  λ s. bytes g e text₀ text₁ w P ok ∙ text-of-same g h e f s ∙ sym (bytes h f other₀ other₁ v Q fine),
 )

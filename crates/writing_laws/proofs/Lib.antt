@@ -1,7 +1,7 @@
-pub mod Gates
+pub mod Asked
 pub mod Numbers
+pub mod Bytes
 pub mod Places
-pub mod Cases
 pub mod Written
-pub mod Again
+pub mod Rewritten
 pub mod Calls

@@ -10,7 +10,7 @@ use lib.IntN.{ℤ, pos, negsuc}
 use lib.Signed.{_≤ℤ_}
 use lib.ListN.{getD}
 use borrow.Author.Tests.{le-leb, lt-leb, lt-ltb, le-ltb}
-use Rattle.grid.specs.Sheet.{void, top}
+use Rattle.grid.specs.Sheet.{void, top, IsElevation}
 use Rattle.grid.specs.Frames.{hexValue, number4, fromTwos, toTwos, upperDigit, hexText}
 use Rattle.grid.specs.Writing.{raised}
 use Rattle.text_laws.proofs.Values.{below-digits, of-digit, below-upper, of-upper, below-lower, of-lower, above-lower}
@@ -158,12 +158,12 @@ module _ (text : List ℕ) (i : ℕ) (h : (k : ℕ) → k < 4 → hexValue (getD
 
 -- ---- two's complement
 
-pub twos-small : (z : ℤ) → (void ≤ℤ z) × (z ≤ℤ top) → toTwos z < 65536
+pub twos-small : (z : ℤ) → IsElevation z → toTwos z < 65536
 unfolding toTwos top
 twos-small (pos n) h = let l = leb→le n 32767 (h .1 .le) in omega arith
 twos-small (negsuc n) h = omega arith
 
-pub twos-back : (z : ℤ) → (void ≤ℤ z) × (z ≤ℤ top) → fromTwos (toTwos z) ≡ z
+pub twos-back : (z : ℤ) → IsElevation z → fromTwos (toTwos z) ≡ z
 unfolding toTwos fromTwos void top
 twos-back (pos n) h = rw (lt-ltb n 32768 (let l = leb→le n 32767 (h .1 .le) in omega arith))
 twos-back (negsuc n) h =
@@ -182,7 +182,7 @@ module _ (n : ℕ) where
       go (no l) = rw (le-ltb n 32768 (let q : 32768 ≤ n = omega arith in q)) (omega arith)
 
   -- what is read has 16 bits
-  pub from-sixteen : (void ≤ℤ fromTwos n) × (fromTwos n ≤ℤ top)
+  pub from-sixteen : IsElevation (fromTwos n)
   unfolding fromTwos void top
   from-sixteen = go (decLt n 32768)
     where

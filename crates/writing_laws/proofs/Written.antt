@@ -4,7 +4,7 @@ use mathlib.Core.Bool.{true, false, not, _&&_}
 use mathlib.Core.Logic.{_⊎_, inl, inr, ⊎-elim}
 use mathlib.Core.List.{List}
 use Prim.Native.Nat.{ℕ, _+_, _*_, _/_, _%_, _≤_, _<_}
-use native.Mathlib.Nat.{div-add-mod', mod-lt, mul-add, mul-left-comm, mul-le-mul-left, div-lt-iff-lt-mul}
+use native.Mathlib.Nat.{div-add-mod', mod-lt, div-lt-iff-lt-mul}
 use native.Mathlib.Omega.{arith}
 use lib.Dec.{eqb}
 use lib.IntN.{ℤ}
@@ -14,20 +14,19 @@ use Rattle.grid.specs.declared.Grid.{Grid}
 use Rattle.grid.specs.Sheet.{gridOf, size, at, void, SixteenBits}
 use Rattle.grid.specs.Checks.{accepted}
 use Rattle.grid.specs.Frames.{lineFeed, hexValue, isTextByte, number4, textGrid, textLength, endsLine, isShaped, firstBadByte, readCheck}
-use Rattle.grid.specs.Frames.{fromTwos, toTwos, textSheet, upperDigit, elevationText}
-use Rattle.grid.specs.Writing.{writeCheck, Writable, ReadsAs, WrittenReadsBack}
+use Rattle.grid.specs.Frames.{fromTwos, toTwos, cellPlace, textSheet, upperDigit, elevationText}
+use Rattle.grid.specs.Writing.{writeCheck, Writable, WrittenFits, ReadsAs, WrittenReadsBack}
 use Rattle.grid_laws.proofs.Tests.{cond-true, and-true, or-left, not-of-false, and-false-left, and-false-right, not-of-true}
 use Rattle.grid_laws.proofs.Below.{is-table, first-none, none-of}
-use Rattle.writing_laws.proofs.Gates.{Sized, number-zero, size-passes, same-fits, sized}
+use Rattle.checks.proofs.Gate.{number-zero}
+use Rattle.checks.proofs.Asked.{size-passes, same-fits}
+use Rattle.writing_laws.proofs.Asked.{Printable, printable, short}
 use Rattle.writing_laws.proofs.Numbers.{digitOf, digit-small, value-upper, upper-no-feed, reads-number, twos-small, twos-back}
-use Rattle.writing_laws.proofs.Places.{written-length, rows-at, cols-at, header-feed, cell-at, line-feed}
-use Rattle.writing_laws.proofs.Cases.{Place, in-rows, in-cols, after-header, in-cell, after-line, place-of}
-use Rattle.writing_laws.proofs.Cases.{ends-number, ends-header, ends-cell, ends-line}
+use Rattle.writing_laws.proofs.Bytes.{written-length, rows-at, cols-at, header-feed, cell-at, line-feed}
+use Rattle.writing_laws.proofs.Places.{Place, in-rows, in-cols, after-header, in-cell, after-line, place-of}
+use Rattle.writing_laws.proofs.Places.{ends-number, ends-header, ends-cell, ends-line}
 
-pub sized-of : (g : Grid) (e : List ℤ) → Writable g e → Sized g (length e) (textLength g)
-sized-of g e w = sized g (length e) (textLength g) (number-zero (writeCheck g (length e) (textLength g)) (w .accepts))
-
-module _ (g : Grid) (e : List ℤ) {room₀ : ℕ} (bits : SixteenBits e) (f : Sized g (length e) room₀) where
+module _ (g : Grid) (e : List ℤ) {lent : ℕ} (bits : SixteenBits e) (f : Printable g (length e) lent) where
   abbrev text : List ℕ
   text = elevationText g e
 
@@ -103,22 +102,10 @@ module _ (g : Grid) (e : List ℤ) {room₀ : ℕ} (bits : SixteenBits e) (f : S
       (not-of-false (none-of (length text) (λ i. not (eqb (getD text i 0) lineFeed) && endsLine (g .cols) i) feed-where-due)))
       (not-of-false (none-of (length text) (λ i. eqb (getD text i 0) lineFeed && not (endsLine (g .cols) i)) due-where-feed)))
 
-  -- a line has at least one cell, so that 2,304 cells are at most 2,304 lines
-  short : length text ≤ 11529
-  short =
-      let l = written-length g e in
-      let m = f .few in
-      let p = mul-le-mul-left (g .rows) (f .fits .cols-low) in
-      let q = distribute (g .rows) (g .cols) in
-      omega arith
-    where
-      distribute : (r c : ℕ) → r * (4 * c + 1) ≡ 4 * (r * c) + r * 1
-      distribute r c = mul-add r (4 * c) 1 ∙ ap (λ (x : ℕ). x + r * 1) (mul-left-comm r 4 c)
-
   passes : (room : ℕ) → size g ≤ room → readCheck text room ≡ accepted
   unfolding readCheck
   passes room h =
-      cond-true _ _ (le-leb (length text) 11529 short)
+      cond-true _ _ (le-leb (length text) 11529 (rw (written-length g e) (short g f)))
       ∙ cond-true _ _ (eq-eqb (firstBadByte text) (length text) no-bad-byte)
       ∙ cond-true _ _ shaped
       ∙ rw grid-read
@@ -128,12 +115,12 @@ module _ (g : Grid) (e : List ℤ) {room₀ : ℕ} (bits : SixteenBits e) (f : S
 
   -- ---- the cells
 
-  cell-read : (c : ℕ) → c < size g → number4 text (9 + (c / g .cols) * (4 * g .cols + 1) + 4 * (c % g .cols)) ≡ toTwos (at e c)
+  cell-read : (c : ℕ) → c < size g → number4 text (cellPlace (g .cols) c) ≡ toTwos (at e c)
   cell-read c h =
       let cl = f .fits .cols-low in
       let q : c % g .cols < g .cols = mod-lt c (omega arith) in
       let r : c / g .cols < g .rows = div-lt-iff-lt-mul {k = g .cols} {x = c} {y = g .rows} (omega arith) .1 h in
-      reads-number text (9 + (c / g .cols) * (4 * g .cols + 1) + 4 * (c % g .cols)) (toTwos (at e c)) (twos-small (at e c) (bits c))
+      reads-number text (cellPlace (g .cols) c) (toTwos (at e c)) (twos-small (at e c) (bits c))
       (λ k l.
       ap (λ (x : ℕ). getD text x 0) (place (c / g .cols * (4 * g .cols + 1)) (c % g .cols) k)
       ∙ cell-at g e (c / g .cols) (c % g .cols) k r q l
@@ -146,7 +133,7 @@ module _ (g : Grid) (e : List ℤ) {room₀ : ℕ} (bits : SixteenBits e) (f : S
   unfolding textSheet
   sheet-read =
       rw grid-read
-      (sym (is-table (size g) (λ c. fromTwos (number4 text (9 + (c / g .cols) * (4 * g .cols + 1) + 4 * (c % g .cols)))) e void (f .long)
+      (sym (is-table (size g) (λ c. fromTwos (number4 text (cellPlace (g .cols) c))) e void (f .long)
       (λ c h. sym (ap fromTwos (cell-read c h) ∙ twos-back (at e c) (bits c)))))
 
   pub reads-as : ReadsAs text g e
@@ -158,5 +145,11 @@ module _ (g : Grid) (e : List ℤ) {room₀ : ℕ} (bits : SixteenBits e) (f : S
         elevations = sheet-read;
       }
 
+accepted-of : (g : Grid) (e : List ℤ) → Writable g e → Printable g (length e) (textLength g)
+accepted-of g e w = printable g (length e) (textLength g) (number-zero (writeCheck g (length e) (textLength g)) (w .accepts))
+
 pub written-reads-back : WrittenReadsBack
-written-reads-back g e w = reads-as g e (w .sixteen-bits) (sized-of g e w)
+written-reads-back g e w = reads-as g e (w .sixteen-bits) (accepted-of g e w)
+
+pub written-fits : WrittenFits
+written-fits g e w = short g (accepted-of g e w)

@@ -2,7 +2,7 @@
 use mathlib.Core.Path.{refl, sym}
 use native.Mathlib.Omega.{arith}
 use lib.Seq.{length-take-le}
-use Rattle.drain_text.proofs.Program.{read-rows-cols, refused, drained}
+use Rattle.drain_text.proofs.Program.{read-small, refused, drained}
 use borrow.Author.Needs.{needs}
 use Rattle.drain_text.proofs.run.Statement.{statement}
 use Rattle.drain_text.proofs.run.Tie as tie
@@ -33,28 +33,27 @@ cast-cols c = search needs
 mul-n : tie.Need-mul-n
 mul-n c =
     let r = c .before .before .before .before .read in
-    omega (arith, read-rows-cols _ _ _ _ refl (r .ensures) (c .before .before .if1 .left) .few)
+    omega (arith, read-small _ _ _ _ refl (r .ensures) (c .before .before .if1 .left) .few)
 
 array-share-prefix-elevations : tie.Need-array-share-prefix-elevations
 array-share-prefix-elevations c =
     let r = c .before .before .before .before .read in
-    omega (arith, read-rows-cols _ _ _ _ refl (r .ensures) (c .before .before .if1 .left) .few, r .kept .1 .0)
+    omega (arith, read-small _ _ _ _ refl (r .ensures) (c .before .before .if1 .left) .few, r .kept .1 .0)
 
 slice-aggregate-drain-sheet : tie.Need-slice-aggregate-drain-sheet
 slice-aggregate-drain-sheet c =
     let r = c .before .before .before .before .before .read in
     sym
     (length-take-le _ _
-    (omega (arith, read-rows-cols _ _ _ _ refl (r .ensures) (c .before .before .before .if1 .left) .few, r .kept .1 .0)))
+    (omega (arith, read-small _ _ _ _ refl (r .ensures) (c .before .before .before .if1 .left) .few, r .kept .1 .0)))
 
 drain-sheet-requires : tie.Need-drain-sheet-requires
 drain-sheet-requires c κs =
     let r = c .before .before .before .before .before .before .read in
-    let p = read-rows-cols _ _ _ _ refl (r .ensures) (c .before .before .before .before .if1 .left) in
+    let p = read-small _ _ _ _ refl (r .ensures) (c .before .before .before .before .if1 .left) in
     record {
       few = p .few;
-      rows-in-range = p .rows-in-range;
-      cols-in-range = p .cols-in-range;
+      fits = p .fits;
       no-sides = refl;
       elevations-size = length-take-le _ _ (omega (arith, p .few, r .kept .1 .0));
       room = c .before .before .before .before .before .before .before .before .before .before .pre;

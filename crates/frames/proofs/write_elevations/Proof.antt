@@ -1,6 +1,5 @@
 -- `frames::write_elevations`: the header and the sheet, one run after the other.
-use Rattle.grid.specs.Frames.{elevationText}
-use Rattle.text_lines.proofs.Lines.{put-put}
+use Rattle.frames.proofs.Outputs.{elevations-put}
 use borrow.Author.Needs.{needs}
 use Rattle.frames.proofs.write_elevations.Statement.{statement}
 use Rattle.frames.proofs.write_elevations.Tie as tie
@@ -19,10 +18,11 @@ same-length : tie.Need-same-length
 same-length c = search needs
 
 returns : tie.Need-returns
-unfolding elevationText
 returns c =
+    let s = c .before .before .before .before .before .before .before .before .before in
+    let header = c .before .before .before .before .before .before .header .ensures in
     let sheet = c .before .before .elevations-sheet .ensures in
-    (put-put (c .before .before .before .before .before .before .header .ensures) (sheet .0), sheet .1)
+    (elevations-put (s .args .g) (s .args .elevations .now) header (sheet .0), sheet .1)
 
 pub write-elevations-spec : {M : Type 1} → statement M
 write-elevations-spec = tie.close (tie.spec header-requires elevations-sheet-requires same-length returns)

@@ -1,7 +1,8 @@
 -- `text_checks::is_shaped`: each return is a case of `isShaped`.
 use mathlib.Core.Path.{sym, _∙_}
 use native.Mathlib.Omega.{arith}
-use Rattle.text_checks.proofs.Bytes.{too-short, wrong-length, right-length, announced-small}
+use Rattle.text_checks.proofs.Bytes.{too-short, wrong-length, right-length}
+use Rattle.text_laws.proofs.Asked.{announced-small}
 use borrow.Author.Needs.{needs}
 use Rattle.text_checks.proofs.is_shaped.Statement.{statement}
 use Rattle.text_checks.proofs.is_shaped.Tie as tie

@@ -6,9 +6,8 @@ use mir.Val.{toZ, ofZ}
 use native.Mathlib.Omega.{arith}
 use lib.IntN.{pos}
 use lib.ListN.{getD}
-use lib.Signed.{_≤ℤ_}
 use borrow.Author.Needs.{needs, sfits-of}
-use Rattle.grid.specs.Sheet.{void, top}
+use Rattle.grid.specs.Sheet.{IsElevation}
 use Rattle.grid.specs.Frames.{toTwos}
 use Rattle.grid_laws.proofs.Cells.{word-void, word-top}
 use Rattle.text_laws.proofs.Words.{at-any}
@@ -31,7 +30,7 @@ returns c =
     let h = sfits-of (c .before .twos-arg .given) in
     let e : toZ w16 (ofZ w16 x) ≡ x = toZ-ofZ h in
     let q = at-any (s .elevations .now) (s .c) (pos 0) (omega arith) in
-    let b : (void ≤ℤ x) × (x ≤ℤ top) = (word-void x (h .sfits), word-top x (h .sfits)) in
+    let b : IsElevation x = (word-void x (h .sfits), word-top x (h .sfits)) in
     (c .twos .ensures ∙ ap toTwos (e ∙ q), rw q at b)
 
 pub twos-at-spec : {M : Type 1} → statement M

@@ -1,7 +1,7 @@
 -- `writer::text_length`: rows and columns up to 4,000 leave every sum and product below a word's limit.
 use native.Mathlib.Omega.{arith}
 use borrow.Author.Needs.{needs}
-use Rattle.writer.proofs.Promise.{text-small}
+use Rattle.text_laws.proofs.Asked.{announced-small}
 use Rattle.writer.proofs.text_length.Statement.{statement}
 use Rattle.writer.proofs.text_length.Tie as tie
 
@@ -12,10 +12,10 @@ add-result : tie.Need-add-result
 add-result c = search needs
 
 mul-result-2 : tie.Need-mul-result-2
-mul-result-2 c = omega (arith, text-small (c .args .g) (c .pre .0) (c .pre .1))
+mul-result-2 c = omega (arith, announced-small (c .args .g .rows) (c .args .g .cols) (search needs) (search needs))
 
 add-result-2 : tie.Need-add-result-2
-add-result-2 c = omega (arith, text-small (c .args .g) (c .pre .0) (c .pre .1))
+add-result-2 c = omega (arith, announced-small (c .args .g .rows) (c .args .g .cols) (search needs) (search needs))
 
 returns : tie.Need-returns
 returns c = search needs

@@ -1,7 +1,7 @@
 -- `writer::write`: beside a no, and after the last yes.
 use native.Mathlib.Omega.{arith}
 use borrow.Author.Needs.{needs}
-use Rattle.writer.proofs.Promise.{refused, printable, count-small, written}
+use Rattle.writer.proofs.Promise.{refused, sheet-fits, count-small, written}
 use Rattle.writer.proofs.write.Statement.{statement}
 use Rattle.writer.proofs.write.Tie as tie
 
@@ -18,7 +18,7 @@ write-elevations-requires : tie.Need-write-elevations-requires
 write-elevations-requires c κs =
     let a = c .before .before .before .check in
     let s = c .before .before .before .before .before .args in
-    printable (s .g) (s .elevations .now) (s .text .now) (a .result) (a .ensures) (c .before .if1 .left)
+    sheet-fits (s .g) (s .elevations .now) (s .text .now) (a .result) (a .ensures) (c .before .if1 .left)
 
 cast-t11 : tie.Need-cast-t11
 cast-t11 c =
