@@ -416,6 +416,11 @@ static void ponds_round(const Desc &d, const V<i16> &e0, bool exact, gen::Rng &g
     before["ponds"][{18, 14}] += z.n < count;
   most_ponds = std::max<u64>(most_ponds, x.count);
 }
+// the bytes of a sheet's text, or the largest number of 64 bits: a size that is refused may have more
+static u64 text_length(const Desc &d) {
+  unsigned __int128 n = 9 + (unsigned __int128)d.rows * (4 * (unsigned __int128)d.cols + 1);
+  return n > UINT64_MAX ? UINT64_MAX : (u64)n;
+}
 // A sheet written into `room` bytes, and the bytes that are reported read again.
 static void write_round(const Desc &d, const V<i16> &e, size_t room, u64 round) {
   Lent<u8> text(room);
@@ -435,7 +440,7 @@ static void write_round(const Desc &d, const V<i16> &e, size_t room, u64 round) 
   for (u32 k = 4; k <= 6; k++)
     met[{k, 7}] += a.number == k && e.size() != d.n();
   met[{5, 6}] += a.number == 5 && (d.cols < 1 || d.cols > 4000);
-  size_t length = 9 + d.rows * (4 * d.cols + 1);
+  u64 length = text_length(d);
   for (u32 k = 4; k <= 7; k++)
     met[{k, 8}] += a.number == k && room < length;
   exact_rooms += !a.number && room == length;
@@ -452,7 +457,7 @@ static void write_round(const Desc &d, const V<i16> &e, size_t room, u64 round) 
 }
 // a buffer for a sheet's text: a byte short, none, shorter, longer, the longest there is, or else as long as it must be
 static size_t text_room(const Desc &d, gen::Rng &g, u64 k) {
-  size_t n = std::min<u64>(9 + d.rows * (4 * d.cols + 1), 20000);
+  size_t n = std::min<u64>(text_length(d), 20000);
   switch (k) {
   case 0:
     return n - 1;
