@@ -11,10 +11,11 @@ use Rattle.grid.specs.declared.Grid.{Grid}
 use Rattle.grid.specs.Sheet.{gridOf, closedGrid, eqZ}
 use Rattle.grid.specs.Fill.{filled}
 use Rattle.grid.specs.Directions.{choice, directions}
-use Rattle.grid.specs.Routes.{counts, labels}
+use Rattle.grid.specs.Routes.{route, counts, labels}
 use Rattle.grid.specs.Ponds.{ponds, pondCount, pondLevel, pondCells, pondVolume}
 use Rattle.grid.specs.Culvert.{opened}
 use Rattle.grid.specs.Checks.{accepted, askSize, fillCheck, directionsCheck, drainCheck, codesCheck, pondsCheck, culvertCheck}
+use Rattle.grid.specs.Endings.{endingCheck, sharedEnding}
 use Rattle.grid.specs.Frames.{textSheet, elevationText, programText}
 use Rattle.grid.specs.Writing.{writeCheck, raised}
 
@@ -178,6 +179,11 @@ writeIn : ℕ → ℕ → ℕ → ℕ → List ℕ
 unfolding numberAndPlace
 writeIn rows cols given room = numberAndPlace (writeCheck (gridOf rows cols) given room)
 
+-- for two lists of cells on the bank's sheet
+listsIn : List ℕ → List ℕ → List ℕ
+unfolding numberAndPlace
+listsIn first second = numberAndPlace (endingCheck (gridOf 3 5) first second)
+
 basinCodes : List ℕ
 basinCodes = directions (gridOf 5 5) basin
 
@@ -192,7 +198,7 @@ eastwardCodes = directions eastward (filled eastward cut)
 
 unfoldable pub knownGround : List Case
 unfolding printed-input printed-output voids between middle basin hole pools poolNumbers bank opened-bank cut eastward corners
-    corners-read corners-written numberAndPlace culvertIn writeIn basinCodes openedCodes eastwardCodes
+    corners-read corners-written numberAndPlace culvertIn writeIn listsIn basinCodes openedCodes eastwardCodes
 knownGround =
     -- P1: the printed example, from text to text
     numbers (programText printed-input) printed-output
@@ -285,6 +291,28 @@ knownGround =
     ∷ numbers (writeIn 48 48 2304 9273) (0 ∷ 0 ∷ [])
     ∷ numbers (writeIn 2304 1 2304 11529) (0 ∷ 0 ∷ [])
     ∷ numbers (writeIn 2305 1 2305 11534) (4 ∷ 0 ∷ [])
+    -- two lists: the longest ending that both share, of two walks, of walks that end apart, and where one is the other's ending
+    ∷ numbers (sharedEnding (6 ∷ 7 ∷ 8 ∷ 9 ∷ []) (12 ∷ 8 ∷ 9 ∷ [])) (8 ∷ 9 ∷ [])
+    ∷ numbers (sharedEnding (6 ∷ 7 ∷ 8 ∷ []) (6 ∷ 7 ∷ 8 ∷ 9 ∷ [])) []
+    ∷ numbers (sharedEnding (8 ∷ 9 ∷ []) (6 ∷ 7 ∷ 8 ∷ 9 ∷ [])) (8 ∷ 9 ∷ [])
+    ∷ numbers (sharedEnding (6 ∷ 7 ∷ 8 ∷ 9 ∷ []) (8 ∷ 9 ∷ [])) (8 ∷ 9 ∷ [])
+    ∷ numbers (sharedEnding [] (8 ∷ 9 ∷ [])) []
+    -- whole routes: two that meet, and two that never do
+    ∷ numbers (route (gridOf 3 5) openedCodes 6) (6 ∷ 7 ∷ 8 ∷ 9 ∷ [])
+    ∷ numbers (sharedEnding (route (gridOf 3 5) openedCodes 6) (route (gridOf 3 5) openedCodes 7)) (7 ∷ 8 ∷ 9 ∷ [])
+    ∷ numbers (sharedEnding (route (gridOf 3 5) openedCodes 6) (route (gridOf 3 5) openedCodes 4)) []
+    -- side and corner steps pass, and empty lists; a cell off the sheet, a cell again, one over the edge of a row, and one two columns
+    -- away get 19; the first list is judged first, and rows and columns before it
+    ∷ numbers (listsIn (6 ∷ 7 ∷ 8 ∷ 9 ∷ []) (12 ∷ 8 ∷ 9 ∷ [])) (0 ∷ 0 ∷ [])
+    ∷ numbers (listsIn [] []) (0 ∷ 0 ∷ [])
+    ∷ numbers (listsIn (14 ∷ []) []) (0 ∷ 0 ∷ [])
+    ∷ numbers (listsIn (15 ∷ []) []) (19 ∷ 0 ∷ [])
+    ∷ numbers (listsIn (6 ∷ 6 ∷ []) []) (19 ∷ 1 ∷ [])
+    ∷ numbers (listsIn (3 ∷ 4 ∷ 5 ∷ []) []) (19 ∷ 2 ∷ [])
+    ∷ numbers (listsIn [] (0 ∷ 2 ∷ [])) (19 ∷ 1 ∷ [])
+    ∷ numbers (listsIn (0 ∷ 1 ∷ 3 ∷ []) (15 ∷ [])) (19 ∷ 2 ∷ [])
+    ∷ numbers (numberAndPlace (endingCheck (gridOf 0 0) (0 ∷ []) [])) (5 ∷ 0 ∷ [])
+    ∷ numbers (numberAndPlace (endingCheck (gridOf 3 4001) (15 ∷ 15 ∷ []) [])) (6 ∷ 0 ∷ [])
     -- "Rows 4,000 passes, 4,001 gets 5. Codes 2 and 32 side by side, facing each other, get 12"
     ∷ numbers ((askSize (gridOf 4000 1) accepted) .number ∷ []) (0 ∷ [])
     ∷ numbers ((askSize (gridOf 4001 1) accepted) .number ∷ []) (5 ∷ [])

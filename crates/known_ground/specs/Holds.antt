@@ -14,6 +14,7 @@ use Rattle.grid.specs.Ponds.{isWet, pondOf, lowestCell, isLowest, ponds, pondCo
 use Rattle.grid.specs.Culvert.{opened, isLevelFor}
 use Rattle.grid.specs.Checks.{inRange, askSize, allHave, askLengths, askSides, askSheets, askOutlets, askWork, askReach, askCodes}
 use Rattle.grid.specs.Checks.{askCulvert, fillCheck, directionsCheck, codesCheck, drainCheck, pondsCheck, culvertCheck}
+use Rattle.grid.specs.Endings.{areNeighbours, isStray, firstStray, askList, endingCheck, sharedLength, sharedEnding}
 use Rattle.grid.specs.Frames.{hexValue, isTextByte, number4, textGrid, endsLine, isShaped, firstBadByte, readCheck, fromTwos, toTwos}
 use Rattle.grid.specs.Frames.{textSheet, upperDigit, hexText, sheetText, headerText, elevationText, resultText, refusalText, drainText}
 use Rattle.grid.specs.Frames.{programText}
@@ -27,7 +28,8 @@ unfolding allHold knownGround table anyBelow sumBelow countBelow firstBelow join
     levelPasses levels flatSum directionAt directions firstUnlevelled follow endsBy hasCode receiver countAt labelAt counts labels
     firstBadCode firstEndless joinPass joinPasses joined isWet pondOf lowestCell isLowest ponds pondCount natural depth pondLevel
     pondCells pondVolume opened isLevelFor inRange askSize allHave askLengths askSides askSheets askOutlets askWork askReach askCodes
-    fillCheck directionsCheck codesCheck drainCheck pondsCheck askCulvert culvertCheck hexValue isTextByte number4 textGrid endsLine
+    fillCheck directionsCheck codesCheck drainCheck pondsCheck askCulvert culvertCheck areNeighbours isStray firstStray askList
+    endingCheck sharedLength sharedEnding hexValue isTextByte number4 textGrid endsLine
     isShaped firstBadByte readCheck fromTwos toTwos textSheet upperDigit hexText sheetText headerText elevationText resultText
     refusalText drainText programText writeCheck raised
 known-ground = refl

@@ -5,9 +5,12 @@ use grid::Answer;
 use grid::Counted;
 use grid::Dimensions;
 use grid::Grid;
+use grid::Located;
+use grid::Part;
 ghost use Rattle.grid.specs.Sheet.{gridOf, closedGrid};
 ghost use Rattle.grid.specs.Promises.{CountsPromise, CulvertPromise, DirectionsPromise, DrainPromise, FillPromise, LabelsPromise};
-ghost use Rattle.grid.specs.Promises.{PondsPromise, PourPointsPromise, ReadPromise, StartsPromise, WatershedsPromise, WritePromise};
+ghost use Rattle.grid.specs.Promises.{ListsPromise, PartPromise, PondsPromise, PourPointsPromise, ReadPromise, StartsPromise};
+ghost use Rattle.grid.specs.Promises.{WatershedsPromise, WritePromise};
 
 // Elevations to the filled sheet.
 #[no_mangle]
@@ -243,6 +246,48 @@ pub extern "C" fn tervuola_pour_points(
         sides: 0,
     };
     pour_points::pour_points(g, elevations, labels, smaller, larger, elevation, cell)
+}
+
+// Two lists of cells to a number and a place.
+#[no_mangle]
+pub extern "C" fn tervuola_check_lists(
+    rows: u32,
+    cols: u32,
+    first: &[u32],
+    second: &[u32],
+) -> Located
+    ensures { λ r. ⌜ ListsPromise (gridOf rows cols) (now (first .entry)) (now (second .entry)) r ⌝ }
+{
+    let g = Grid {
+        rows: rows as usize,
+        cols: cols as usize,
+        sides: 0,
+    };
+    lists::check_lists(g, first, second)
+}
+
+// Two lists of cells to the end of the first that both share. No exported function returns a reference, so C gets the part by its place and
+// its length.
+#[no_mangle]
+pub extern "C" fn tervuola_shared_ending(
+    rows: u32,
+    cols: u32,
+    first: &[u32],
+    second: &[u32],
+) -> Part
+    ensures { λ r. ⌜ PartPromise (gridOf rows cols) (now (first .entry)) (now (second .entry)) r ⌝ }
+{
+    let g = Grid {
+        rows: rows as usize,
+        cols: cols as usize,
+        sides: 0,
+    };
+    let part = ending::shared_ending(g, first, second);
+    let count = part.len();
+    Part {
+        at: first.len() - count,
+        count: count,
+    }
 }
 
 // A text frame to rows, columns and elevations.

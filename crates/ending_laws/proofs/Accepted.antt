@@ -1,0 +1,87 @@
+-- "one accepted sheet of codes": what its yes says, and that the sheets which the calls accept or work out are such sheets.
+use mathlib.Core.Path.{_≡_, refl, _∙_, ap}
+use mathlib.Core.List.{List, [], _∷_}
+use Prim.Native.Nat.{ℕ}
+use native.Mathlib.Omega.{arith}
+use lib.Dec.{T, eqb}
+use lib.ListN.{length}
+use lib.IntN.{ℤ}
+use borrow.Author.Tests.{eq-eqb, eqb-true}
+use Rattle.grid.specs.declared.Grid.{Grid}
+use Rattle.grid.specs.declared.Answer.{Answer}
+use Rattle.grid.specs.Sheet.{size, SixteenBits}
+use Rattle.grid.specs.Outlet.{firstStranded}
+use Rattle.grid.specs.Fill.{filled}
+use Rattle.grid.specs.Directions.{directions}
+use Rattle.grid.specs.Routes.{firstBadCode, firstEndless}
+use Rattle.grid.specs.Checks.{accepted, isAccepted, allHave, askSheets, askLengths, askReach, askCodes, codesCheck}
+use Rattle.grid.specs.Checks.{drainCheck}
+use Rattle.grid.specs.Endings.{AcceptedCodes, CodesOfCalls}
+use Rattle.grid_laws.proofs.Tests.{true-T, cond-true, and-true}
+use Rattle.checks.specs.Sizes.{Fits}
+use Rattle.checks.proofs.Gate.{Gate, one, both, weaken, passed, number-zero}
+use Rattle.checks.proofs.Asked.{sheets-gate, check-gate, outlets-check-gate, size-passes, lengths-asked}
+use Rattle.checks.proofs.Questions.{codes-yes}
+use Rattle.guarantee_laws.proofs.OneCall.{codes-length, none-bad, all-end}
+
+-- rows, columns and length as they should be, each code 0 or one of the eight, every route ends
+pub record Sound (g : Grid) (codes : List ℕ) : Type 0 where
+  pub fits : Fits g
+  pub long : length codes ≡ size g
+  pub all-codes : firstBadCode g codes ≡ size g
+  pub all-end : firstEndless g codes ≡ size g
+
+-- 11 and 12, and 18
+codes-gate : (g : Grid) (codes : List ℕ) → Gate (askCodes g codes) ((firstBadCode g codes ≡ size g) × (firstEndless g codes ≡ size g))
+unfolding askCodes
+codes-gate g codes =
+    weaken (λ f. (eqb-true (firstBadCode g codes) (size g) (f .0), eqb-true (firstEndless g codes) (size g) (f .1)))
+    (both (one (eqb (firstBadCode g codes) (size g)) 11 (firstBadCode g codes) (omega arith))
+    (one (eqb (firstEndless g codes) (size g)) 12 (firstEndless g codes) (omega arith)))
+
+reach-gate : (g : Grid) (e : List ℤ) → Gate (askReach g e) (firstStranded g e ≡ size g)
+unfolding askReach
+reach-gate g e =
+    weaken (eqb-true (firstStranded g e) (size g)) (one (eqb (firstStranded g e) (size g)) 18 (firstStranded g e) (omega arith))
+
+-- what a yes to all questions of a gate says
+fact-of : {gate : Answer → Answer} {Fact : Type 0} → Gate gate Fact → T (isAccepted (gate accepted)) → Fact
+fact-of {gate} is t = passed is refl (number-zero (gate accepted) t) .fact
+
+pub sound-of : (g : Grid) (codes : List ℕ) → AcceptedCodes g codes → Sound g codes
+sound-of g codes t =
+    let f = fact-of (both (sheets-gate g (length codes ∷ []) []) (codes-gate g codes)) t in
+    record { fits = f .0 .fits; long = f .0 .inputs-have .0; all-codes = f .1 .0; all-end = f .1 .1 }
+
+accepted-of : (g : Grid) (codes : List ℕ) → Sound g codes → AcceptedCodes g codes
+unfolding askLengths allHave
+accepted-of g codes s =
+    let later : Answer = askCodes g codes accepted in
+    let e : askSheets g (length codes ∷ []) [] later ≡ accepted =
+    lengths-asked g (length codes ∷ []) [] later
+    ∙ size-passes g (s .fits) (askLengths g (length codes ∷ []) [] later)
+    ∙ cond-true _ _ (and-true (eq-eqb (length codes) (size g) (s .long)) refl)
+    ∙ codes-yes g codes accepted (s .all-codes) (s .all-end) in
+    true-T (ap isAccepted e)
+
+from-codes : (g : Grid) (codes : List ℕ) (result work : ℕ) → T (isAccepted (codesCheck g codes result work)) → AcceptedCodes g codes
+unfolding codesCheck
+from-codes g codes result work t =
+    let f = fact-of (both (check-gate g (length codes ∷ []) (result ∷ []) work) (codes-gate g codes)) t in
+    accepted-of g codes (record { fits = f .0 .fits; long = f .0 .inputs-have .0; all-codes = f .1 .0; all-end = f .1 .1 })
+
+from-elevations : (g : Grid) (e : List ℤ) (f c a l work : ℕ) → SixteenBits e → T (isAccepted (drainCheck g e f c a l work)) →
+    AcceptedCodes g (directions g (filled g e))
+unfolding drainCheck
+from-elevations g e f c a l work range t =
+    let y = fact-of (both (outlets-check-gate g (length e ∷ []) (f ∷ c ∷ a ∷ l ∷ []) work) (reach-gate g e)) t in
+    let long = y .0 .inputs-have .0 in
+    accepted-of g (directions g (filled g e)) (record {
+      fits = y .0 .fits;
+      long = codes-length g e long range (y .1);
+      all-codes = none-bad g e long range (y .1);
+      all-end = all-end g e long range (y .1);
+    })
+
+pub codes-of-calls : CodesOfCalls
+codes-of-calls = (from-codes, from-elevations)

@@ -1,0 +1,95 @@
+-- Whole routes on an accepted sheet of codes: each cell is one of the sheet, and a neighbour of the one before, since a code points at it;
+-- and they go on together from the first cell that both have.
+use mathlib.Core.Path.{_≡_, refl, sym, _∙_, ap}
+use mathlib.Core.Bool.{true, false, not}
+use mathlib.Core.Logic.{⊎-elim}
+use mathlib.Core.List.{List}
+use Prim.Native.Nat.{ℕ, zero, suc, _-_, _<_}
+use native.Mathlib.Omega.{arith}
+use lib.Dec.{eqb, ltb, leb}
+use lib.ListN.{length, getD}
+use borrow.Author.Tests.{eq-eqb, lt-leb, ltb-true}
+use Rattle.grid.specs.declared.Grid.{Grid}
+use Rattle.grid.specs.Sheet.{size, neighbour}
+use Rattle.grid.specs.Routes.{follow, endsBy, hasCode, receiver, positionAt, route, firstEndless}
+use Rattle.grid.specs.Checks.{accepted}
+use Rattle.grid.specs.Endings.{areNeighbours, isStray, firstStray, askList, endingCheck, RoutesJoin, AllRoutesJoin}
+use Rattle.grid_laws.proofs.Tests.{test, cond-true, not-is-false, or-false, and-false-right, not-of-true}
+use Rattle.grid_laws.proofs.Below.{any-of, first-none, first-all}
+use Rattle.route_laws.specs.Ends.{EndsIn, Ends}
+use Rattle.route_laws.proofs.Routes.{ends-of, enough, short, dead-ends}
+use Rattle.route_laws.proofs.Receivers.{code-below}
+use Rattle.checks.proofs.Asked.{size-passes}
+use Rattle.ending_laws.proofs.Longest.{is-longest}
+use Rattle.ending_laws.proofs.Meeting.{join, cell-live, cell-next}
+use Rattle.ending_laws.proofs.Accepted.{Sound, sound-of}
+
+module _ (g : Grid) (codes : List ℕ) (ok : Sound g codes) where
+  on-sheet : (c : ℕ) → hasCode codes c ≡ true → c < size g
+  on-sheet c t = let b = code-below codes c t in let l = ok .long in omega arith
+
+  ends : (c : ℕ) → Ends (hasCode codes) (receiver g codes) c
+  unfolding firstEndless
+  ends c =
+      ⊎-elim
+      (λ t.
+      let q = first-all (size g) (λ d. not (endsBy (hasCode codes) (receiver g codes) (size g) d)) (ok .all-end) c (on-sheet c t) in
+      ends-of (hasCode codes) (receiver g codes) (size g) c (not-is-false _ q))
+      (λ f. dead-ends (hasCode codes) (receiver g codes) c f) (test (hasCode codes c))
+
+  whole : (c k : ℕ) → EndsIn (hasCode codes) (receiver g codes) k c → route g codes c ≡ follow (hasCode codes) (receiver g codes) k c
+  whole c k e =
+      enough (hasCode codes) (receiver g codes) k (size g) c e (short (hasCode codes) (receiver g codes) (size g) on-sheet k c e)
+
+  -- ---- no cell of a route is stray
+
+  live-at : (a i : ℕ) → i < length (route g codes a) → hasCode codes (getD (route g codes a) i 0) ≡ true
+  live-at a i h = cell-live (hasCode codes) (receiver g codes) (size g) a i h
+
+  within : (a i : ℕ) → i < length (route g codes a) → leb (size g) (getD (route g codes a) i 0) ≡ false
+  within a i h = lt-leb (size g) (getD (route g codes a) i 0) (on-sheet (getD (route g codes a) i 0) (live-at a i h))
+
+  -- the code of a cell points at the next
+  next-touches : (a i : ℕ) → suc i < length (route g codes a) →
+      areNeighbours g (getD (route g codes a) i 0) (getD (route g codes a) (suc i) 0) ≡ true
+  unfolding areNeighbours receiver hasCode
+  next-touches a i h =
+      let d = getD (route g codes a) i 0 in
+      any-of 8 (λ p. eqb (neighbour g d p) (getD (route g codes a) (suc i) 0)) (positionAt codes d)
+      (ltb-true (positionAt codes d) 8 (live-at a i (omega arith)))
+      (eq-eqb _ _ (sym (cell-next (hasCode codes) (receiver g codes) (size g) a i h)))
+
+  none-stray : (a i : ℕ) → i < length (route g codes a) → isStray g (route g codes a) i ≡ false
+  unfolding isStray
+  none-stray a zero h = or-false (within a 0 h) refl
+  none-stray a (suc i) h =
+      let l = route g codes a in
+      let q : suc i - 1 ≡ i = omega arith in
+      or-false (within a (suc i) h)
+      (and-false-right (ltb 0 (suc i))
+      (not-of-true (ap (λ (j : ℕ). areNeighbours g (getD l j 0) (getD l (suc i) 0)) q ∙ next-touches a i h)))
+
+  no-stray : (a : ℕ) → firstStray g (route g codes a) ≡ length (route g codes a)
+  unfolding firstStray
+  no-stray a = first-none (length (route g codes a)) (isStray g (route g codes a)) (none-stray a)
+
+  lists-pass : (a b : ℕ) → endingCheck g (route g codes a) (route g codes b) ≡ accepted
+  unfolding endingCheck askList
+  lists-pass a b =
+      size-passes g (ok .fits) _ ∙ cond-true _ _ (eq-eqb _ _ (no-stray a)) ∙ cond-true _ _ (eq-eqb _ _ (no-stray b))
+
+  -- ---- and they join
+
+  routes-join : (a b : ℕ) → RoutesJoin g codes a b
+  routes-join a b =
+      let e = ends a in
+      let f = ends b in
+      let p = whole a (e .0) (e .1) in
+      let q = whole b (f .0) (f .1) in
+      record {
+        accepts = lists-pass a b;
+        joins = rw (p, q) (join (hasCode codes) (receiver g codes) (e .0) (f .0) a b (e .1) (f .1) _ (is-longest _ _));
+      }
+
+pub all-routes-join : AllRoutesJoin
+all-routes-join g codes t a b = routes-join g codes (sound-of g codes t) a b

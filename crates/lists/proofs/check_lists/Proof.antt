@@ -1,0 +1,71 @@
+-- `lists::check_lists`: each return is a case of what is asked.
+use mathlib.Core.Path.{_∙_}
+use denote.Ref.{now}
+use borrow.Author.Needs.{needs}
+use Rattle.lists.proofs.Promise.{stray-no, stray-yes, bad-size, few-cells, by-lists}
+use Rattle.lists.proofs.check_lists.Statement.{statement}
+use Rattle.lists.proofs.check_lists.Tie as tie
+
+rows-and-cols-requires : tie.Need-rows-and-cols-requires
+rows-and-cols-requires c κs = search needs
+
+cast-t8 : tie.Need-cast-t8
+cast-t8 c = search needs
+
+returns : tie.Need-returns
+returns c =
+    let a = c .before .before .before .rows-and-cols in record { answer = bad-size _ _ _ _ (a .ensures) (c .before .if1 .taken) }
+
+first-stray-requires : tie.Need-first-stray-requires
+first-stray-requires c κs =
+    let b = c .before .before in
+    let s = b .before .before .before .args in
+    few-cells (s .g) (now (s .first)) (now (s .second)) _ (b .rows-and-cols .ensures) (c .if1 .left)
+
+returns-2 : tie.Need-returns-2
+returns-2 c =
+    let e = c .before .before in
+    let a = e .before .before .rows-and-cols in
+    record {
+      answer = stray-no _ _ _ _ (c .before .first-stray .ensures) (c .if2 .taken) ∙ by-lists _ _ _ _ (a .ensures) (e .if1 .left);
+    }
+
+first-stray-requires-2 : tie.Need-first-stray-requires-2
+first-stray-requires-2 c κs = first-stray-requires (c .before .before) κs
+
+returns-3 : tie.Need-returns-3
+returns-3 c =
+    let f = c .before .before in
+    let e = f .before .before in
+    let a = e .before .before .rows-and-cols in
+    record {
+      answer =
+          stray-no _ _ _ _ (c .before .first-stray2 .ensures) (c .if3 .taken)
+          ∙ stray-yes _ _ _ _ (f .before .first-stray .ensures) (f .if2 .left)
+          ∙ by-lists _ _ _ _ (a .ensures) (e .if1 .left);
+    }
+
+returns-4 : tie.Need-returns-4
+returns-4 c =
+    let f = c .before .before in
+    let e = f .before .before in
+    let a = e .before .before .rows-and-cols in
+    record {
+      answer =
+          stray-yes _ _ _ _ (c .before .first-stray2 .ensures) (c .if3 .left)
+          ∙ stray-yes _ _ _ _ (f .before .first-stray .ensures) (f .if2 .left)
+          ∙ by-lists _ _ _ _ (a .ensures) (e .if1 .left);
+    }
+
+pub check-lists-spec : {M : Type 1} → statement M
+check-lists-spec =
+    tie.close
+    (tie.spec
+    rows-and-cols-requires
+    cast-t8
+    returns
+    first-stray-requires
+    returns-2
+    first-stray-requires-2
+    returns-3
+    returns-4)

@@ -1,0 +1,2 @@
+-- When two rows, or two columns, are close.
+pub mod Close
