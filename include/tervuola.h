@@ -1,6 +1,6 @@
 /*
- * tervuola.h - drainage of an elevation sheet: fill, flow directions, flow accumulation counts, basins, ponds, culverts; and small
- * sheets read from text and written as text.
+ * tervuola.h - drainage of an elevation sheet: fill, flow directions, flow accumulation counts, basins, ponds, culverts; streams
+ * compared, as lists of cells; and small sheets read from text and written as text.
  *
  * Every call is proved against the definitions in crates/grid/specs (docs/DEFINITIONS.md has them in words, docs/PROVED.md says
  * what is proved): for every input and every length of every buffer it gives the number, the place and every element of every
@@ -44,7 +44,7 @@
 #include <stdint.h>
 
 #define TERVUOLA_VERSION_MAJOR 0
-#define TERVUOLA_VERSION_MINOR 6
+#define TERVUOLA_VERSION_MINOR 7
 #define TERVUOLA_VERSION_PATCH 0
 
 /* The void mark, and the eight direction codes. */
@@ -99,7 +99,9 @@ enum tervuola_number {
     TERVUOLA_BAD_CELL = 15,       /* the cell is no data cell of the sheet: a void, or off the sheet; place: the cell as given */
     TERVUOLA_BAD_LEVEL = 16,      /* the level is -32768, or above the cell's elevation; place: the cell */
     TERVUOLA_BAD_SIDES = 17,      /* the closed sides are a number above 15 */
-    TERVUOLA_NO_OUTLET = 18       /* a data cell has no chain of data cells to an outlet; place: the first such cell */
+    TERVUOLA_NO_OUTLET = 18,      /* a data cell has no chain of data cells to an outlet; place: the first such cell */
+    TERVUOLA_BAD_LIST = 19        /* a cell of a list lies outside the sheet, or is no neighbour of the one before it; place: the
+                                     first such cell's position in its list, from 0 */
 };
 
 typedef struct {
@@ -119,6 +121,17 @@ typedef struct {
     uint32_t rows; /* 0 beside a refusal */
     uint32_t cols;
 } tervuola_dimensions;
+
+typedef struct {
+    uint32_t number;
+    size_t place; /* in a list, which may have more than 2^32 places */
+} tervuola_located;
+
+/* A part of a list: count cells, from the place at. */
+typedef struct {
+    size_t at;
+    size_t count;
+} tervuola_part;
 
 /* The number of 32-bit elements that a work buffer needs, for rows and columns in range: a constant where they are constants. */
 #define TERVUOLA_WORK_SIZE(rows, cols) ((size_t)4 * (rows) * (cols))
@@ -152,6 +165,7 @@ static inline const char *tervuola_text(uint32_t number)
     case TERVUOLA_BAD_LEVEL: return "the level is the void mark or above the cell's elevation";
     case TERVUOLA_BAD_SIDES: return "the closed sides are not from 0 to 15";
     case TERVUOLA_NO_OUTLET: return "a data cell has no chain to an outlet: its water cannot leave";
+    case TERVUOLA_BAD_LIST: return "a cell of a list lies outside the sheet or is no neighbour of the one before it";
     default: return "unknown number";
     }
 }
@@ -287,6 +301,35 @@ tervuola_counted tervuola_pour_points(uint32_t rows, uint32_t cols,
                                       uint32_t *larger, size_t larger_len,
                                       int16_t *elevation, size_t elevation_len,
                                       uint32_t *cell, size_t cell_len);
+
+/*
+ * Two streams, each a list of cells in the order in which the water passes them, a crew's walk and a route, say: whether each cell
+ * lies on the sheet and is a neighbour of the one before it, at a side or a corner. A cell listed twice in a row is no neighbour of
+ * itself; an empty list is accepted.
+ * first, second: any number of cells. The first list is asked about first: its cells are in order if the call with an empty second
+ * list (a null pointer will do) answers 0.
+ * Numbers: 5 6 19. Promise: ListsPromise. Linear in the lengths of the lists.
+ */
+tervuola_located tervuola_check_lists(uint32_t rows, uint32_t cols,
+                                      const uint32_t *first, size_t first_len,
+                                      const uint32_t *second, size_t second_len);
+
+/*
+ * The longest ending that two such lists share, as a part of the first list: it reaches to that list's end, so at + count is
+ * first_len. It is empty, at the first list's end, where the last cells differ, and for lists that tervuola_check_lists refuses: ask
+ * that call to tell the two apart. If both lists are whole routes on one sheet of codes, the part begins at the first cell where
+ * they meet, and is empty if they never do.
+ * Promise: PartPromise; what is shown of routes: Endings.antt. Linear in the lengths of the lists.
+ */
+tervuola_part tervuola_shared_ending(uint32_t rows, uint32_t cols,
+                                     const uint32_t *first, size_t first_len,
+                                     const uint32_t *second, size_t second_len);
+
+/* The part itself, in the first list's own memory: part.count cells. The list must be the one that the part was worked out for. */
+static inline const uint32_t *tervuola_part_of(const uint32_t *first, tervuola_part part)
+{
+    return part.at == 0 ? first : first + part.at; /* a null pointer is not added to */
+}
 
 /*
  * Reads a text frame (docs/FORMATS.md) of any bytes into rows, columns and elevations.

@@ -1,6 +1,6 @@
-// Every call of libtervuola.a against the second program as it is after request 5, on its sheets, on sheets of ponds, on sheets cut from
-// larger ones, under all closed sides, on random codes, on cells and levels that are and are not there, on damaged texts, and on wrong lengths.
-// What is written is read again, and what is read is written again.
+// Every call of libtervuola.a against the second program as it is after request 6, on its sheets, on sheets of ponds, on sheets cut from
+// larger ones, under all closed sides, on random codes, on cells and levels that are and are not there, on walks, routes and lists of any numbers,
+// on damaged texts, and on wrong lengths. What is written is read again, and what is read is written again.
 //   compare ROUNDS [SEED]      sheets up to 5 by 5, each size under each number of closed sides; then ROUNDS of sheets up to 40 by 40
 //   compare big KIND SIDE      one large sheet, by the second program's fast layer
 // A result buffer is lent with guard elements on both sides, and holds a pattern before the call; a no must leave it, and the work buffer
@@ -544,6 +544,183 @@ static void read_round(const std::string &t, gen::Rng &g, u64 round) {
     write_again(t, a.rows, a.cols, out.at(), g, round);
 }
 
+// ---- two lists of cells
+
+static V<u64> wide(const V<u32> &l) { return V<u64>(l.begin(), l.end()); }
+// a walk of at most 1 + steps cells, each a neighbour of the one before
+static V<u32> some_walk(gen::Rng &g, u64 rows, u64 cols, u64 from, u64 steps) {
+  V<u32> l{(u32)from};
+  for (u64 k = 0; k < steps; k++) {
+    i64 j = at_step(rows, cols, l.back(), (int)g.below(8));
+    if (j >= 0)
+      l.push_back((u32)j);
+  }
+  return l;
+}
+// a walk that comes to the first cell of `tail`, and then that
+static V<u32> walk_into(gen::Rng &g, u64 rows, u64 cols, const V<u32> &tail, u64 steps) {
+  V<u32> l = some_walk(g, rows, cols, tail[0], steps);
+  std::reverse(l.begin(), l.end());
+  l.insert(l.end(), tail.begin() + 1, tail.end());
+  return l;
+}
+// the route from a cell, or its first cells where it does not end
+static V<u32> route_from(u64 rows, u64 cols, const V<u8> &codes, u64 cell) {
+  V<u32> l;
+  for (i64 c = (i64)cell; c >= 0 && l.size() < rows * cols; ) {
+    int p = 0;
+    while (p < 8 && codes[(u64)c] != 1u << p)
+      p++;
+    if (p == 8)
+      break;
+    l.push_back((u32)c);
+    c = at_step(rows, cols, (u64)c, p);
+  }
+  return l;
+}
+// one place changed: the cell before it again, one off the sheet, one that is the next number or two further, or any
+static void damage(gen::Rng &g, u64 n, V<u32> &l) {
+  if (l.empty() || g.chance(5))
+    l.push_back(0);
+  u64 k = g.below(l.size());
+  u32 before = k ? l[k - 1] : (u32)g.below(n);
+  const u32 values[] = {before, (u32)n, (u32)n + 1, 4294967295u, before + 1, before + 2, (u32)g.g(), (u32)g.below(n)};
+  l[k] = values[g.below(8)];
+}
+struct Lists {
+  V<u32> first, second;
+  bool routes;
+};
+static Lists some_lists(gen::Rng &g, u64 rows, u64 cols, const V<u8> &codes) {
+  u64 n = rows * cols, kind = g.below(6);
+  u64 a = g.below(n), b = g.below(n), steps = g.below(g.chance(80) ? 12 : 80);
+  if (kind < 2)
+    return {route_from(rows, cols, codes, a), route_from(rows, cols, codes, b), true};
+  V<u32> tail = some_walk(g, rows, cols, a, steps);
+  if (kind == 2) // one the other's ending, or both the same
+    return g.chance(50) ? Lists{tail, walk_into(g, rows, cols, tail, g.below(5)), false}
+                        : Lists{walk_into(g, rows, cols, tail, g.below(5)), tail, false};
+  if (kind == 3)
+    return {walk_into(g, rows, cols, tail, g.below(9)), walk_into(g, rows, cols, tail, g.below(9)), false};
+  if (kind == 4)
+    return {tail, g.chance(10) ? V<u32>() : some_walk(g, rows, cols, b, steps), false};
+  V<u32> any(g.below(4));
+  for (auto &x : any)
+    x = g.chance(80) ? (u32)g.below(n + 2) : (u32)g.g();
+  return g.chance(50) ? Lists{any, tail, false} : Lists{tail, any, false};
+}
+// the first place of a whose cell is one of b, or a's length
+static u64 first_meeting(const V<u32> &a, const V<u32> &b) {
+  std::set<u32> on(b.begin(), b.end());
+  u64 k = 0;
+  while (k < a.size() && !on.count(a[k]))
+    k++;
+  return k;
+}
+// shared endings that are the whole first list, a part of it, and none; whole routes that meet, and that never do; lists that both hold a bad
+// cell, at two places
+static u64 shared_whole = 0, shared_part = 0, shared_none = 0, routes_met = 0, routes_apart = 0, both_bad = 0;
+static void lists_round(const Desc &d, const V<u32> &first, const V<u32> &second, bool whole_routes, u64 round) {
+  V<u32> a(first), b(second);
+  Reply r = call_lists(d.rows, d.cols, wide(a), wide(b));
+  tervuola_located x = tervuola_check_lists((u32)d.rows, (u32)d.cols, a.data(), a.size(), b.data(), b.size());
+  same_answer("check_lists", x.number, x.place, r, round);
+  tervuola_part p = tervuola_shared_ending((u32)d.rows, (u32)d.cols, a.data(), a.size(), b.data(), b.size());
+  u64 at = shared_ending(d.rows, d.cols, wide(a), wide(b));
+  checks += 3;
+  if (p.at != at || p.count != a.size() - at)
+    fail("shared_ending", "the part", round);
+  if (tervuola_part_of(a.data(), p) != a.data() + at)
+    fail("shared_ending", "the part's place in memory", round);
+  if (a != first || b != second)
+    fail("shared_ending", "a list handed in", round);
+  answers["check_lists"][x.number]++;
+  auto &met = before["check_lists"];
+  u64 n = d.rows * d.cols;
+  bool off = std::any_of(a.begin(), a.end(), [&](u32 c) { return c >= n; });
+  met[{5, 6}] += x.number == 5 && (d.cols < 1 || d.cols > 4000);
+  met[{5, 19}] += x.number == 5 && off;
+  met[{6, 19}] += x.number == 6 && off;
+  if (x.number == 19) {
+    Reply other = call_lists(d.rows, d.cols, wide(b), {});
+    both_bad += other.number == 19 && other.place != x.place && call_lists(d.rows, d.cols, wide(a), {}).number == 19;
+  }
+  if (x.number)
+    return;
+  (at == a.size() ? shared_none : at ? shared_part : shared_whole) += !a.empty();
+  if (!whole_routes)
+    return;
+  if (at != first_meeting(a, b))
+    fail("shared_ending", "where two routes meet", round);
+  (at < a.size() ? routes_met : routes_apart) += !a.empty() && !b.empty();
+}
+// every pair of lists of at most three cells, on or just off the sheet, on each sheet of at most four cells
+static void small_lists() {
+  static const u64 sizes[][2] = {{1, 1}, {1, 2}, {2, 1}, {1, 3}, {3, 1}, {2, 2}, {1, 4}, {4, 1}};
+  part = "small list";
+  for (u64 i = 0; i < sizeof sizes / sizeof *sizes; i++) {
+    Desc d;
+    d.rows = sizes[i][0];
+    d.cols = sizes[i][1];
+    V<V<u32>> all{{}};
+    for (size_t k = 0; k < all.size(); k++)
+      for (u32 c = 0; c <= d.n() && all[k].size() < 3; c++) {
+        all.push_back(all[k]);
+        all.back().push_back(c);
+      }
+    for (auto &a : all)
+      for (auto &b : all)
+        lists_round(d, a, b, false, i);
+  }
+  part = "round";
+}
+// routes on a large sheet, from its corners and cells between them; then one with its last cell off the sheet
+static void long_lists(const Desc &d, const V<u8> &codes) {
+  u64 longest = 0;
+  for (u64 a = 0; a < d.n(); a += d.n() / 7)
+    for (u64 b = 0; b < d.n(); b += d.n() / 7) {
+      V<u32> first = route_from(d.rows, d.cols, codes, a), second = route_from(d.rows, d.cols, codes, b);
+      tervuola_located x = tervuola_check_lists((u32)d.rows, (u32)d.cols, first.data(), first.size(), second.data(), second.size());
+      tervuola_part p = tervuola_shared_ending((u32)d.rows, (u32)d.cols, first.data(), first.size(), second.data(), second.size());
+      checks += 2;
+      if (x.number || x.place)
+        fail("check_lists", "whole routes on an accepted sheet", a);
+      if (p.at != first_meeting(first, second) || p.count != first.size() - p.at)
+        fail("shared_ending", "where two routes meet", a);
+      longest = std::max<u64>(longest, first.size());
+      if (second.empty())
+        continue;
+      second.back() = (u32)d.n();
+      x = tervuola_check_lists((u32)d.rows, (u32)d.cols, first.data(), first.size(), second.data(), second.size());
+      p = tervuola_shared_ending((u32)d.rows, (u32)d.cols, first.data(), first.size(), second.data(), second.size());
+      checks += 2;
+      if (x.number != 19 || x.place != second.size() - 1)
+        fail("check_lists", "a cell off the sheet", a);
+      if (p.at != first.size() || p.count)
+        fail("shared_ending", "the part of lists that are refused", a);
+    }
+  printf("compare: routes of up to %llu cells\n", (unsigned long long)longest);
+}
+// two lists on a sheet of this size, as they are and damaged; d is the size that is said
+static void lists_rounds(u64 rows, u64 cols, const Desc &d, const V<u8> &codes, gen::Rng &g, u64 round) {
+  V<u32> out(codes.size());
+  bool accepted = call_labels(rows, cols, codes, out, 4 * codes.size()).number == 0;
+  bool right = d.rows == rows && d.cols == cols;
+  for (int k = 0; k < 4; k++) {
+    Lists l = some_lists(g, rows, cols, codes);
+    bool whole = l.routes && accepted && right;
+    if (whole && call_lists(rows, cols, wide(l.first), wide(l.second)).number)
+      fail("check_lists", "whole routes on an accepted sheet", round);
+    lists_round(d, l.first, l.second, whole, round);
+    lists_round(d, l.first, l.first, false, round);
+    V<u32> first(l.first), second(l.second);
+    damage(g, rows * cols, second);
+    lists_round(d, first, second, false, round);
+    damage(g, rows * cols, first);
+    lists_round(d, first, g.chance(50) ? second : l.second, false, round);
+  }
+}
+
 // codes: random, from a sheet, or those with a ring or a bad byte
 static V<u8> some_codes(gen::Rng &g, const Desc &d, const V<i16> &e) {
   u64 n = d.n();
@@ -643,6 +820,7 @@ static int rounds(u64 count, u64 seed) {
   auto &bad = gen::badkinds();
   small_sheets(seed);
   write_sizes(seed);
+  small_lists();
   for (u64 i = 0; i < count; i++) {
     gen::Rng g(seed * 1000003 + i);
     u64 side = g.chance(70) ? 9 : g.chance(70) ? 20 : 40;
@@ -663,6 +841,7 @@ static int rounds(u64 count, u64 seed) {
     code_rounds(d, codes, len, i);
     watersheds_round(d, codes, g, len, i);
     starts_round(d, codes, g, len, i);
+    lists_rounds(s.rows, s.cols, d, codes, g, i);
     pour_points_round(d, s.e, g, len, i);
     V<i16> banks = pond_sheet(g, i % FORMS, s.rows, s.cols);
     ponds_round(d, banks, false, g, len, i);
@@ -688,6 +867,9 @@ static int rounds(u64 count, u64 seed) {
          (unsigned long long)inward, (unsigned long long)inward_wet, (unsigned long long)inward_flat);
   printf("compare: %llu texts read whose letters are raised when they are written again; %llu written into just their length, %llu refused a byte less\n",
          (unsigned long long)raised_texts, (unsigned long long)exact_rooms, (unsigned long long)short_rooms);
+  printf("compare: shared endings: %llu the whole first list, %llu a part of it, %llu empty; whole routes: %llu meet, %llu never do; %llu times both lists bad\n",
+         (unsigned long long)shared_whole, (unsigned long long)shared_part, (unsigned long long)shared_none, (unsigned long long)routes_met,
+         (unsigned long long)routes_apart, (unsigned long long)both_bad);
   bool all = every_answer("counts", {0, 5, 6, 7, 8, 9, 11, 12});
   all = every_answer("labels", {0, 5, 6, 7, 8, 9, 11, 12}) && all;
   all = every_outlets_answer("fill", {0, 5, 6, 17, 7, 8, 9, 18}, {}) && all;
@@ -696,6 +878,8 @@ static int rounds(u64 count, u64 seed) {
   all = every_outlets_answer("ponds", {0, 5, 6, 17, 7, 8, 9, 18, 14}, {{18, 14}}) && all;
   all = every_outlets_answer("culvert", {0, 5, 6, 17, 7, 8, 9, 15, 16, 18}, {{15, 18}, {16, 18}}) && all;
   all = every_answer("write", {0, 4, 5, 6, 7, 8}) && every_order("write", {{4, 5}, {4, 6}, {4, 7}, {4, 8}, {5, 6}, {5, 7}, {5, 8}, {6, 7}, {6, 8}, {7, 8}}) && all;
+  all = every_answer("check_lists", {0, 5, 6, 19}) && every_order("check_lists", {{5, 6}, {5, 19}, {6, 19}}) && all;
+  all = all && shared_whole && shared_part && shared_none && routes_met && routes_apart && both_bad;
   return checks && all && opened_border && opened_banks && inward_wet && inward_flat && raised_texts && exact_rooms && short_rooms ? 0 : 1;
 }
 
@@ -715,6 +899,7 @@ static int big(const char *kind, u64 side) {
   code_rounds(d, codes, len, 0);
   watersheds_round(d, codes, g, len, 0);
   starts_round(d, codes, g, len, 0);
+  long_lists(d, codes);
   drain_round(d, s.e, len, 0);
   V<i16> banks = pond_sheet(g, DEEPEST, side, side);
   ponds_round(d, s.e, true, g, len, 0);
@@ -734,7 +919,7 @@ static int big(const char *kind, u64 side) {
 }
 
 int main(int argc, char **argv) {
-  LEVEL = 5;
+  LEVEL = 6;
   if (argc == 4 && !strcmp(argv[1], "big"))
     return big(argv[2], strtoull(argv[3], 0, 10));
   if (argc < 2) {

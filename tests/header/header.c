@@ -24,6 +24,8 @@ tervuola_answer tervuola_drain(uint32_t, uint32_t, uint32_t, const int16_t *, si
 tervuola_answer tervuola_culvert(uint32_t, uint32_t, uint32_t, const int16_t *, size_t, uint32_t, int16_t, int16_t *, size_t, uint8_t *, size_t,
                                  uint32_t *, size_t, uint32_t *, size_t, uint32_t *, size_t);
 tervuola_counted tervuola_write(uint32_t, uint32_t, const int16_t *, size_t, uint8_t *, size_t);
+tervuola_located tervuola_check_lists(uint32_t, uint32_t, const uint32_t *, size_t, const uint32_t *, size_t);
+tervuola_part tervuola_shared_ending(uint32_t, uint32_t, const uint32_t *, size_t, const uint32_t *, size_t);
 #ifdef __cplusplus
 }
 #endif
@@ -37,6 +39,8 @@ int main(void)
     int16_t elevations[9], filled[9], level[2];
     uint8_t codes[9];
     uint64_t volume[2];
+    const tervuola_part none = {0, 0}, last = {1, 1};
+    tervuola_located located;
     work[35] = 1;
     EXPECT(sizeof work == 144 && work[35] == 1);
     EXPECT(TERVUOLA_WORK_SIZE(TERVUOLA_MAX_SIDE, TERVUOLA_MAX_SIDE) == 64000000u);
@@ -53,13 +57,19 @@ int main(void)
     EXPECT(sizeof tervuola_culvert(3, 3, 0, elevations, 9, numbers[0], level[0], filled, 9, codes, 9, numbers, 9, numbers, 9, work, 36)
            == sizeof(tervuola_answer));
     EXPECT(strcmp(tervuola_text(0), "accepted") == 0);
-    for (k = 1; k <= 18; k++) {
+    for (k = 1; k <= 19; k++) {
         EXPECT(strcmp(tervuola_text(k), "unknown number") != 0);
         EXPECT(strcmp(tervuola_text(k), tervuola_text(k - 1)) != 0);
     }
     EXPECT(strstr(tervuola_text(14), "pairs") && strstr(tervuola_text(14), "ponds"));
     EXPECT(TERVUOLA_BAD_CELL == 15 && TERVUOLA_BAD_LEVEL == 16 && TERVUOLA_BAD_SIDES == 17 && TERVUOLA_NO_OUTLET == 18);
+    EXPECT(TERVUOLA_BAD_LIST == 19);
     EXPECT(TERVUOLA_CLOSED_WEST == 1 && TERVUOLA_CLOSED_EAST == 2 && TERVUOLA_CLOSED_NORTH == 4 && TERVUOLA_CLOSED_SOUTH == 8);
-    EXPECT(strcmp(tervuola_text(19), "unknown number") == 0);
+    EXPECT(strcmp(tervuola_text(20), "unknown number") == 0);
+    /* a place in a list and a part of one are of the machine's size; the part's pointer, of an empty list too */
+    EXPECT(sizeof(tervuola_located) == 2 * sizeof(size_t) && sizeof(tervuola_part) == 2 * sizeof(size_t));
+    EXPECT(sizeof located.place == sizeof(size_t) && offsetof(tervuola_located, place) == sizeof(size_t));
+    EXPECT(offsetof(tervuola_part, at) == 0 && offsetof(tervuola_part, count) == sizeof(size_t));
+    EXPECT(tervuola_part_of(cells, none) == cells && tervuola_part_of(cells, last) == cells + 1 && tervuola_part_of(NULL, none) == NULL);
     return 0;
 }

@@ -1,15 +1,20 @@
 -- One place of a list, by its tests, and the first stray place by a walk along the list.
-use mathlib.Core.Path.{_≡_, sym, _∙_}
-use mathlib.Core.Bool.{true, false, not}
+use mathlib.Core.Path.{_≡_, refl, sym, _∙_, ap, ap₂, subst}
+use mathlib.Core.Bool.{Bool, true, false, not, _||_}
 use mathlib.Core.List.{List}
-use Prim.Native.Nat.{ℕ, _-_, _≤_, _<_}
+use Prim.Native.Nat.{ℕ, zero, suc, _+_, _-_, _/_, _%_, _^_, _≤_, _<_}
+use native.Mathlib.Nat.{div-le-self, mod-le}
 use native.Mathlib.Omega.{arith}
+use lib.Dec.{eqb}
 use lib.ListN.{length, getD}
-use borrow.Author.Tests.{le-leb, lt-leb, lt-ltb, le-ltb, leb-false}
+use borrow.Author.Count.{below-more}
+use borrow.Author.Tests.{ne-eqb, le-leb, lt-leb, lt-ltb, leb-false}
 use Rattle.grid.specs.declared.Grid.{Grid}
 use Rattle.grid.specs.Sheet.{size}
-use Rattle.grid.specs.Endings.{areNeighbours, isStray, firstStray}
-use Rattle.grid_laws.proofs.Tests.{or-left, or-false, or-none-left, and-false-left}
+use Rattle.grid.specs.Endings.{isStray, firstStray}
+use Rattle.grid_laws.proofs.Tests.{or-left, or-false, or-none-left}
+use Rattle.lists.specs.Beside.{areBeside}
+use Rattle.lists.proofs.Beside.{beside-is}
 use Rattle.grid_laws.proofs.Below.{first-is, first-none}
 
 module _ (g : Grid) (l : List ℕ) (i : ℕ) where
@@ -17,28 +22,39 @@ module _ (g : Grid) (l : List ℕ) (i : ℕ) where
   unfolding isStray
   off-the-sheet h = sym (or-left _ (le-leb (size g) (getD l i 0) h))
 
-  pub at-the-start : getD l i 0 < size g → i ≡ 0 → false ≡ isStray g l i
-  unfolding isStray
-  at-the-start h z = sym (or-false (lt-leb (size g) (getD l i 0) h) (and-false-left _ (le-ltb 0 i (omega arith))))
-
-  pub after-another : getD l i 0 < size g → 0 < i → not (areNeighbours g (getD l (i - 1) 0) (getD l i 0)) ≡ isStray g l i
-  unfolding isStray
-  after-another h p = rw (lt-leb (size g) (getD l i 0) h, lt-ltb 0 i p)
+  -- what is kept of the cell before, in row `row` and column `col`
+  pub record Before (row col : ℕ) : Type 0 where
+    pub cell-on : getD l (i - 1) 0 < size g
+    pub row-is : row ≡ getD l (i - 1) 0 / g .cols
+    pub col-is : col ≡ getD l (i - 1) 0 % g .cols
 
   -- a place that is not stray holds a cell of the sheet
   pub on-the-sheet : isStray g l i ≡ false → getD l i 0 < size g
   unfolding isStray
   on-the-sheet f = leb-false (size g) (getD l i 0) (or-none-left _ _ f)
 
+-- a cell on the sheet, by what is kept of the one before
+by-step : (g : Grid) (l : List ℕ) (i row col : ℕ) → getD l i 0 < size g → (0 < i → Before g l i row col) →
+    not (eqb i 0 || areBeside row col (getD l i 0 / g .cols) (getD l i 0 % g .cols)) ≡ isStray g l i
+unfolding isStray
+by-step g l zero row col h b = sym (or-false (lt-leb (size g) (getD l 0 0) h) refl)
+by-step g l (suc k) row col h b =
+    let w = b (omega arith) in
+    let c = getD l (suc k - 1) 0 in
+    let n = getD l (suc k) 0 in
+    rw (lt-leb (size g) n h, ne-eqb (suc k) 0 (λ e. let z : ⊥ = omega arith in z), lt-ltb 0 (suc k) (omega arith))
+    (ap not
+    (ap₂ (λ (x y : ℕ). areBeside x y (n / g .cols) (n % g .cols)) (w .row-is) (w .col-is) ∙ beside-is g c n (w .cell-on) h))
+
+pub tested : (g : Grid) (l : List ℕ) (i row col : ℕ) → getD l i 0 < size g → (0 < i → Before g l i row col) → {b : Bool} →
+    b ≡ (eqb i 0 || areBeside row col (getD l i 0 / g .cols) (getD l i 0 % g .cols)) → isStray g l i ≡ not b
+tested g l i row col h w e = sym (ap not e ∙ by-step g l i row col h w)
+
 -- no place below i is stray
 abbrev pub Straight : Grid → List ℕ → ℕ → Type 0
 Straight g l i = (j : ℕ) → j < i → isStray g l j ≡ false
 
 module _ (g : Grid) (l : List ℕ) (i : ℕ) (straight : Straight g l i) where
-  -- the cell before the place i
-  pub cell-before : 0 < i → getD l (i - 1) 0 < size g
-  cell-before p = on-the-sheet g l (i - 1) (straight (i - 1) (omega arith))
-
   pub stray-found : i < length l → isStray g l i ≡ true → i ≡ firstStray g l
   unfolding firstStray
   stray-found h t = sym (first-is (length l) (isStray g l) i h t straight)
@@ -46,3 +62,39 @@ module _ (g : Grid) (l : List ℕ) (i : ℕ) (straight : Straight g l i) where
   pub none-found : length l ≤ i → i ≤ length l → i ≡ firstStray g l
   unfolding firstStray
   none-found h k = let e : i ≡ length l = omega arith in e ∙ sym (first-none (length l) (isStray g l) (λ j m. straight j (omega arith)))
+
+-- the walk has come to the place i: no place before it is stray, and row and column of the cell before it are kept
+pub record WalkedTo (g : Grid) (l : List ℕ) (i row col : ℕ) : Type 0 where
+  pub within : i ≤ length l
+  pub straight : Straight g l i
+  pub row-fits : row < 2 ^ 24
+  pub col-fits : col < 2 ^ 24
+  pub before : 0 < i → Before g l i row col
+
+pub walked-none : (g : Grid) (l : List ℕ) → WalkedTo g l 0 0 0
+walked-none g l =
+    record {
+      within = omega arith;
+      straight = λ j h. let z : ⊥ = omega arith in absurd z;
+      row-fits = omega arith;
+      col-fits = omega arith;
+      before = λ h. let z : ⊥ = omega arith in absurd z;
+    }
+
+pub walked-on : (g : Grid) (l : List ℕ) (i row col : ℕ) → WalkedTo g l i row col → size g < 2 ^ 24 → i < length l →
+    getD l i 0 < size g → isStray g l i ≡ false → WalkedTo g l (i + 1) (getD l i 0 / g .cols) (getD l i 0 % g .cols)
+walked-on g l i row col w few h on e =
+    let q : i ≡ i + 1 - 1 = omega arith in
+    let a = div-le-self (getD l i 0) (g .cols) in
+    let b = mod-le (getD l i 0) (g .cols) in
+    record {
+      within = omega arith;
+      straight = below-more _ i (w .straight) e;
+      row-fits = omega arith;
+      col-fits = omega arith;
+      before = λ _. record {
+        cell-on = subst (λ (j : ℕ). getD l j 0 < size g) q on;
+        row-is = ap (λ (j : ℕ). getD l j 0 / g .cols) q;
+        col-is = ap (λ (j : ℕ). getD l j 0 % g .cols) q;
+      };
+    }

@@ -1,2 +1,2 @@
--- When two rows, or two columns, are close.
-pub mod Close
+-- Two cells beside each other, by their rows and columns.
+pub mod Beside

@@ -1,15 +1,16 @@
 // The call `check_lists` (document 02, Wish 6): number and place for two lists of cells. "after 6, 19 if a cell lies outside the sheet or
 // is no neighbour of the one before it, first list first, place the cell's position in its list, from 0". Two cells are neighbours exactly
-// if they are at most one row and one column apart and not one cell (`proofs/Beside.antt`), so that no step looks at all eight.
+// if they are at most one row and one column apart and not one cell (`proofs/Beside.antt`), so that no place looks at all eight.
 use grid::Grid;
 use grid::Located;
 ghost use mathlib.Core.Path.{_≡_};
-ghost use Prim.Native.Nat.{_-_, _<_, _^_};
-ghost use lib.ListN.{length, getD};
+ghost use mathlib.Core.Bool.{_||_};
+ghost use Prim.Native.Nat.{_<_, _^_};
+ghost use lib.Dec.{eqb};
 ghost use Rattle.grid.specs.Sheet.{size};
-ghost use Rattle.grid.specs.Endings.{areNeighbours, isStray, firstStray};
+ghost use Rattle.grid.specs.Endings.{firstStray};
 ghost use Rattle.grid.specs.Promises.{ListsPromise};
-ghost use Rattle.lists.specs.Close.{areClose};
+ghost use Rattle.lists.specs.Beside.{areClose, areBeside};
 
 // Whether two rows, or two columns, are at most one apart.
 fn are_close(x: usize, y: usize) -> bool
@@ -23,51 +24,58 @@ fn are_close(x: usize, y: usize) -> bool
     y <= x + 1
 }
 
-// Whether two cells of the sheet are neighbours.
-fn are_neighbours(g: Grid, cell: usize, other: usize) -> bool
-    requires { ⌜ size g < 2 ^ 24 ⌝ }
-    requires { ⌜ cell < size g ⌝ }
-    requires { ⌜ other < size g ⌝ }
-    ensures { λ r. ⌜ r ≡ areNeighbours g cell other ⌝ }
+// Whether the cells in row `r`, column `q` and in row `s`, column `t` are neighbours.
+fn are_neighbours(r: usize, q: usize, s: usize, t: usize) -> bool
+    requires { ⌜ r < 2 ^ 24 ⌝ }
+    requires { ⌜ q < 2 ^ 24 ⌝ }
+    requires { ⌜ s < 2 ^ 24 ⌝ }
+    requires { ⌜ t < 2 ^ 24 ⌝ }
+    ensures { λ b. ⌜ b ≡ areBeside r q s t ⌝ }
 {
-    let cols = g.cols;
-    if cell == other {
+    if !are_close(r, s) {
         return false;
     }
-    if !are_close(cell / cols, other / cols) {
+    if !are_close(q, t) {
         return false;
     }
-    are_close(cell % cols, other % cols)
+    // the step as a number from 0 to 8; 4 is the one that stays
+    3 * (s + 1 - r) + (t + 1 - q) != 4
 }
 
-// Whether the cell at the place `i` is off the sheet or no neighbour of the one before it, which lies on the sheet.
-fn is_stray(g: Grid, list: &[u32], i: usize) -> bool
-    requires { ⌜ size g < 2 ^ 24 ⌝ }
-    requires { ⌜ i < length (now list) ⌝ }
-    requires { ⌜ (0 < i → getD (now list) (i - 1) 0 < size g) ⌝ }
-    ensures { λ r. ⌜ r ≡ isStray g (now (list .entry)) i ⌝ }
+// Whether the second cell may stand at the place `i` of a list, behind the first one; before the place 0 there is none.
+fn may_follow(i: usize, r: usize, q: usize, s: usize, t: usize) -> bool
+    requires { ⌜ r < 2 ^ 24 ⌝ }
+    requires { ⌜ q < 2 ^ 24 ⌝ }
+    requires { ⌜ s < 2 ^ 24 ⌝ }
+    requires { ⌜ t < 2 ^ 24 ⌝ }
+    ensures { λ b. ⌜ b ≡ (eqb i 0 || areBeside r q s t) ⌝ }
 {
-    let cell = list[i] as usize;
-    if cell >= g.rows * g.cols {
+    if i == 0 {
         return true;
     }
-    if i == 0 {
-        return false;
-    }
-    let before = list[i - 1] as usize;
-    !are_neighbours(g, before, cell)
+    are_neighbours(r, q, s, t)
 }
 
-// The first such place, or the list's length.
+// The first place of a list whose cell is off the sheet or no neighbour of the one before it, or the list's length. Row and column of the
+// cell before are kept, so that a place costs one division.
 fn first_stray(g: Grid, list: &[u32]) -> usize
     requires { ⌜ size g < 2 ^ 24 ⌝ }
     ensures { λ r. ⌜ r ≡ firstStray g (now (list .entry)) ⌝ }
 {
+    let cols = g.cols;
     let mut i: usize = 0;
+    let mut row: usize = 0;
+    let mut col: usize = 0;
     while i < list.len() {
-        if is_stray(g, list, i) {
+        let cell = list[i] as usize;
+        if cell >= g.rows * cols {
             return i;
         }
+        if !may_follow(i, row, col, cell / cols, cell % cols) {
+            return i;
+        }
+        row = cell / cols;
+        col = cell % cols;
         i += 1;
     }
     i

@@ -1,7 +1,7 @@
 -- `lists::are_close`: each way out by its test.
 use borrow.Author.Needs.{needs}
 use borrow.Author.Tests.{lt-leb, le-leb}
-use Rattle.lists.specs.Close.{areClose}
+use Rattle.lists.specs.Beside.{areClose}
 use Rattle.lists.proofs.are_close.Statement.{statement}
 use Rattle.lists.proofs.are_close.Tie as tie
 

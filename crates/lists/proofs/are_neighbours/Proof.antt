@@ -1,69 +1,61 @@
--- `lists::are_neighbours`: each way out by its test.
-use mathlib.Core.Path.{_∙_}
-use native.Mathlib.Nat.{div-le-self, mod-le}
+-- `lists::are_neighbours`: each way out by its tests.
 use native.Mathlib.Omega.{arith}
+use borrow.Author.Needs.{needs}
 use Rattle.checks.proofs.Asked.{says-no, says-yes}
-use Rattle.grid_laws.proofs.Neighbours.{cols-positive}
-use Rattle.lists.proofs.Beside.{one-cell, rows-apart, by-columns}
+use Rattle.lists.proofs.Beside.{yes-close, rows-apart, cols-apart, by-step}
 use Rattle.lists.proofs.are_neighbours.Statement.{statement}
 use Rattle.lists.proofs.are_neighbours.Tie as tie
 
-returns : tie.Need-returns
-returns c =
-    let s = c .before in one-cell (s .args .g) (s .args .cell) (s .args .other) (s .pre .1 .0) (s .pre .1 .1) (c .if1 .taken)
-
-div-are-close : tie.Need-div-are-close
-div-are-close c = let s = c .before in cols-positive (s .args .g) (s .args .cell) (s .pre .1 .0)
-
-div-are-close-2 : tie.Need-div-are-close-2
-div-are-close-2 c = let s = c .before in cols-positive (s .args .g) (s .args .cell) (s .pre .1 .0)
-
 are-close-requires : tie.Need-are-close-requires
-are-close-requires c κs =
-    let s = c .before in
-    let few = s .pre .0 in
-    let on = s .pre .1 .0 in
-    let other-on = s .pre .1 .1 in
-    (omega (arith, div-le-self (s .args .cell) (s .args .g .cols)), omega (arith, div-le-self (s .args .other) (s .args .g .cols)))
+are-close-requires c κs = search needs
+
+returns : tie.Need-returns
+returns c = rows-apart _ _ _ _ (says-no (c .before .are-close .ensures) (c .if1 .taken))
+
+are-close-requires-2 : tie.Need-are-close-requires-2
+are-close-requires-2 c κs = search needs
 
 returns-2 : tie.Need-returns-2
 returns-2 c =
-    let s = c .before .before .before in
-    rows-apart (s .args .g) (s .args .cell) (s .args .other) (s .pre .1 .0) (s .pre .1 .1)
-    (says-no (c .before .are-close .ensures) (c .if2 .taken))
+    let e = c .before .before in
+    cols-apart _ _ _ _ (says-yes (e .before .are-close .ensures) (e .if1 .left)) (says-no (c .before .are-close2 .ensures) (c .if2 .taken))
 
-rem-are-close : tie.Need-rem-are-close
-rem-are-close c = let s = c .before .before .before in cols-positive (s .args .g) (s .args .cell) (s .pre .1 .0)
+add-result : tie.Need-add-result
+add-result c = search needs
 
-rem-are-close-2 : tie.Need-rem-are-close-2
-rem-are-close-2 c = let s = c .before .before .before in cols-positive (s .args .g) (s .args .cell) (s .pre .1 .0)
+sub-result : tie.Need-sub-result
+sub-result c =
+    let e = c .before .before in omega (arith, yes-close _ _ (says-yes (e .before .are-close .ensures) (e .if1 .left)) .0)
 
-are-close-requires-2 : tie.Need-are-close-requires-2
-are-close-requires-2 c κs =
-    let s = c .before .before .before in
-    let few = s .pre .0 in
-    let on = s .pre .1 .0 in
-    let other-on = s .pre .1 .1 in
-    (omega (arith, mod-le (s .args .cell) (s .args .g .cols)), omega (arith, mod-le (s .args .other) (s .args .g .cols)))
+mul-result : tie.Need-mul-result
+mul-result c = search needs
+
+add-result-2 : tie.Need-add-result-2
+add-result-2 c = search needs
+
+sub-result-2 : tie.Need-sub-result-2
+sub-result-2 c = omega (arith, yes-close _ _ (says-yes (c .before .are-close2 .ensures) (c .if2 .left)) .0)
+
+add-result-3 : tie.Need-add-result-3
+add-result-3 c = search needs
 
 returns-3 : tie.Need-returns-3
 returns-3 c =
-    let b = c .before in
-    let s = b .before .before .before in
-    c .are-close2 .ensures
-    ∙ by-columns (s .args .g) (s .args .cell) (s .args .other) (s .pre .1 .0) (s .pre .1 .1) (b .before .before .if1 .left)
-    (says-yes (b .before .are-close .ensures) (b .if2 .left))
+    let e = c .before .before in
+    by-step _ _ _ _ (says-yes (e .before .are-close .ensures) (e .if1 .left)) (says-yes (c .before .are-close2 .ensures) (c .if2 .left))
 
 pub are-neighbours-spec : {M : Type 1} → statement M
 are-neighbours-spec =
     tie.close
     (tie.spec
-    returns
-    div-are-close
-    div-are-close-2
     are-close-requires
-    returns-2
-    rem-are-close
-    rem-are-close-2
+    returns
     are-close-requires-2
+    returns-2
+    add-result
+    sub-result
+    mul-result
+    add-result-2
+    sub-result-2
+    add-result-3
     returns-3)

@@ -1,35 +1,76 @@
--- `lists::first_stray`: no place before i is stray.
-use Prim.Native.Nat.{_≤_, _-_}
-use native.Mathlib.Omega.{arith}
-use lib.ListN.{length}
-use borrow.Author.Count.{below-more}
-use borrow.Author.Needs.{needs}
-use denote.Ref.{now}
+-- `lists::first_stray`: a walk along the list, with row and column of the cell before.
 use mathlib.Core.Path.{sym, _∙_}
-use Rattle.lists.proofs.Stray.{Straight, cell-before, stray-found, none-found}
+use Prim.Native.Nat.{_-_}
+use native.Mathlib.Nat.{div-le-self, mod-le}
+use native.Mathlib.Omega.{arith}
+use lib.ListN.{length, getD}
+use denote.Ref.{now}
+use borrow.Author.Needs.{needs}
+use Rattle.grid_laws.proofs.Neighbours.{cols-positive}
+use Rattle.lists.proofs.Stray.{WalkedTo, walked-none, walked-on, off-the-sheet, tested, stray-found, none-found}
 use Rattle.lists.proofs.first_stray.Statement.{statement}
 use Rattle.lists.proofs.first_stray.Tie as tie
 
 abbrev Inv-loop : tie.InvT-loop
-Inv-loop g list i₀ i = (i ≤ length list) × Straight g list i
+Inv-loop g list cols i₀ row₀ col₀ i row col = WalkedTo g list i row col
 
 abbrev μ-loop : tie.MeasureT-loop
-μ-loop g list i₀ i = length list - i
+μ-loop g list cols i₀ row₀ col₀ i row col = length list - i
 
 loop-holds : tie.Need-loop-holds Inv-loop μ-loop
-loop-holds c = (omega arith, λ j h. let z : ⊥ = omega arith in absurd z)
+loop-holds c = walked-none _ _
 
-is-stray-requires : tie.Need-is-stray-requires Inv-loop μ-loop
-is-stray-requires c κs =
-    let l = c .before .loop in
-    let s = c .before .before .before in
-    (s .pre, (omega arith, cell-before (s .args .g) (now (s .args .list)) (l .i) (l .inv .1)))
+mul-cell : tie.Need-mul-cell Inv-loop μ-loop
+mul-cell c = search needs
+
+shared-slice-read-cell : tie.Need-shared-slice-read-cell Inv-loop μ-loop
+shared-slice-read-cell c = search needs
+
+cast-cell : tie.Need-cast-cell Inv-loop μ-loop
+cast-cell c = omega (arith, c .shared-slice-known2 .given (c .before .before .loop .i))
+
+mul-if1 : tie.Need-mul-if1 Inv-loop μ-loop
+mul-if1 c = search needs
 
 returns : tie.Need-returns Inv-loop μ-loop
 returns c =
-    let l = c .before .before .before .loop in
-    let s = c .before .before .before .before .before in
-    stray-found (s .args .g) (now (s .args .list)) (l .i) (l .inv .1) (omega arith) (sym (c .before .is-stray .ensures) ∙ c .if1 .taken)
+    let l = c .before .before .before .before in
+    let a = l .before .before .args in
+    stray-found (a .g) (now (a .list)) (l .loop .i) (l .loop .inv .straight) (omega arith)
+    (sym (off-the-sheet (a .g) (now (a .list)) (l .loop .i) (c .if1 .taken)))
+
+div-may-follow : tie.Need-div-may-follow Inv-loop μ-loop
+div-may-follow c = cols-positive (c .before .before .before .before .before .before .args .g) _ (c .if1 .left)
+
+rem-may-follow : tie.Need-rem-may-follow Inv-loop μ-loop
+rem-may-follow c = div-may-follow c
+
+may-follow-requires : tie.Need-may-follow-requires Inv-loop μ-loop
+may-follow-requires c κs =
+    let l = c .before .before .before .before in
+    let s = l .before .before in
+    let cell = getD (now (s .args .list)) (l .loop .i) 0 in
+    let few = s .pre in
+    let on = c .if1 .left in (
+      l .loop .inv .row-fits,
+      (l .loop .inv .col-fits, (omega (arith, div-le-self cell (s .args .g .cols)), omega (arith, mod-le cell (s .args .g .cols)))),
+    )
+
+returns-2 : tie.Need-returns-2 Inv-loop μ-loop
+returns-2 c =
+    let e = c .before .before in
+    let l = e .before .before .before .before in
+    let a = l .before .before .args in
+    stray-found (a .g) (now (a .list)) (l .loop .i) (l .loop .inv .straight) (omega arith)
+    (tested (a .g) (now (a .list)) (l .loop .i) (l .loop .row) (l .loop .col) (e .if1 .left) (l .loop .inv .before)
+    (c .before .may-follow .ensures)
+    ∙ c .if2 .taken)
+
+div-row : tie.Need-div-row Inv-loop μ-loop
+div-row c = div-may-follow (c .before .before)
+
+rem-col : tie.Need-rem-col Inv-loop μ-loop
+rem-col c = div-may-follow (c .before .before)
 
 add-i : tie.Need-add-i Inv-loop μ-loop
 add-i c = search needs
@@ -39,14 +80,20 @@ loop-less c = omega arith
 
 loop-again : tie.Need-loop-again Inv-loop μ-loop
 loop-again c =
-    let l = c .before .before .before .loop in
-    (omega arith, below-more _ (l .i) (l .inv .1) (sym (c .before .is-stray .ensures) ∙ c .if1 .left))
+    let e = c .before .before in
+    let l = e .before .before .before .before in
+    let s = l .before .before in
+    let a = s .args in
+    walked-on (a .g) (now (a .list)) (l .loop .i) (l .loop .row) (l .loop .col) (l .loop .inv) (s .pre) (omega arith) (e .if1 .left)
+    (tested (a .g) (now (a .list)) (l .loop .i) (l .loop .row) (l .loop .col) (e .if1 .left) (l .loop .inv .before)
+    (c .before .may-follow .ensures)
+    ∙ c .if2 .left)
 
-returns-2 : tie.Need-returns-2 Inv-loop μ-loop
-returns-2 c =
+returns-3 : tie.Need-returns-3 Inv-loop μ-loop
+returns-3 c =
     let l = c .before .loop in
-    let s = c .before .before .before in
-    none-found (s .args .g) (now (s .args .list)) (l .i) (l .inv .1) (omega arith) (l .inv .0)
+    let a = c .before .before .before .args in
+    none-found (a .g) (now (a .list)) (l .i) (l .inv .straight) (omega arith) (l .inv .within)
 
 pub first-stray-spec : {M : Type 1} → statement M
 first-stray-spec =
@@ -55,9 +102,18 @@ first-stray-spec =
     Inv-loop
     μ-loop
     loop-holds
-    is-stray-requires
+    mul-cell
+    shared-slice-read-cell
+    cast-cell
+    mul-if1
     returns
+    div-may-follow
+    rem-may-follow
+    may-follow-requires
+    returns-2
+    div-row
+    rem-col
     add-i
     loop-less
     loop-again
-    returns-2)
+    returns-3)
