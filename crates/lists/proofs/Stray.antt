@@ -81,7 +81,7 @@ walked-none g l =
       before = λ h. let z : ⊥ = omega arith in absurd z;
     }
 
-pub walked-on : (g : Grid) (l : List ℕ) (i row col : ℕ) → WalkedTo g l i row col → size g < 2 ^ 24 → i < length l →
+pub walked-on : (g : Grid) (l : List ℕ) (i row col : ℕ) → WalkedTo g l i row col → size g ≤ 16000000 → i < length l →
     getD l i 0 < size g → isStray g l i ≡ false → WalkedTo g l (i + 1) (getD l i 0 / g .cols) (getD l i 0 % g .cols)
 walked-on g l i row col w few h on e =
     let q : i ≡ i + 1 - 1 = omega arith in

@@ -7,9 +7,9 @@ ghost use mathlib.Core.Path.{_≡_};
 ghost use mathlib.Core.Bool.{_||_};
 ghost use Prim.Native.Nat.{_<_, _^_};
 ghost use lib.Dec.{eqb};
-ghost use Rattle.grid.specs.Sheet.{size};
 ghost use Rattle.grid.specs.Endings.{firstStray};
 ghost use Rattle.grid.specs.Promises.{ListsPromise};
+ghost use Rattle.checks.specs.Sizes.{Fits};
 ghost use Rattle.lists.specs.Beside.{areClose, areBeside};
 
 // Whether two rows, or two columns, are at most one apart.
@@ -59,7 +59,7 @@ fn may_follow(i: usize, r: usize, q: usize, s: usize, t: usize) -> bool
 // The first place of a list whose cell is off the sheet or no neighbour of the one before it, or the list's length. Row and column of the
 // cell before are kept, so that a place costs one division.
 fn first_stray(g: Grid, list: &[u32]) -> usize
-    requires { ⌜ size g < 2 ^ 24 ⌝ }
+    requires { ⌜ Fits g ⌝ }
     ensures { λ r. ⌜ r ≡ firstStray g (now (list .entry)) ⌝ }
 {
     let cols = g.cols;
@@ -99,11 +99,11 @@ pub fn check_lists(g: Grid, first: &[u32], second: &[u32]) -> Located
             place: stray,
         };
     }
-    let stray = first_stray(g, second);
-    if stray < second.len() {
+    let other = first_stray(g, second);
+    if other < second.len() {
         return Located {
             number: 19,
-            place: stray,
+            place: other,
         };
     }
     Located {

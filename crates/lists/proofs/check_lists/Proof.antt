@@ -1,8 +1,7 @@
 -- `lists::check_lists`: each return is a case of what is asked.
-use mathlib.Core.Path.{_∙_}
 use denote.Ref.{now}
 use borrow.Author.Needs.{needs}
-use Rattle.lists.proofs.Promise.{stray-no, stray-yes, bad-size, few-cells, by-lists}
+use Rattle.lists.proofs.Promise.{bad-size, fits, bad-first, bad-second, none-bad}
 use Rattle.lists.proofs.check_lists.Statement.{statement}
 use Rattle.lists.proofs.check_lists.Tie as tie
 
@@ -20,15 +19,14 @@ first-stray-requires : tie.Need-first-stray-requires
 first-stray-requires c κs =
     let b = c .before .before in
     let s = b .before .before .before .args in
-    few-cells (s .g) (now (s .first)) (now (s .second)) _ (b .rows-and-cols .ensures) (c .if1 .left)
+    fits (s .g) (now (s .first)) (now (s .second)) _ (b .rows-and-cols .ensures) (c .if1 .left)
 
 returns-2 : tie.Need-returns-2
 returns-2 c =
     let e = c .before .before in
     let a = e .before .before .rows-and-cols in
-    record {
-      answer = stray-no _ _ _ _ (c .before .first-stray .ensures) (c .if2 .taken) ∙ by-lists _ _ _ _ (a .ensures) (e .if1 .left);
-    }
+    let s = c .before .first-stray in
+    record { answer = bad-first _ _ _ _ (a .ensures) (e .if1 .left) _ (s .ensures) (c .if2 .taken) }
 
 first-stray-requires-2 : tie.Need-first-stray-requires-2
 first-stray-requires-2 c κs = first-stray-requires (c .before .before) κs
@@ -38,24 +36,18 @@ returns-3 c =
     let f = c .before .before in
     let e = f .before .before in
     let a = e .before .before .rows-and-cols in
-    record {
-      answer =
-          stray-no _ _ _ _ (c .before .first-stray2 .ensures) (c .if3 .taken)
-          ∙ stray-yes _ _ _ _ (f .before .first-stray .ensures) (f .if2 .left)
-          ∙ by-lists _ _ _ _ (a .ensures) (e .if1 .left);
-    }
+    let s = f .before .first-stray in
+    let t = c .before .first-stray2 in
+    record { answer = bad-second _ _ _ _ (a .ensures) (e .if1 .left) _ (s .ensures) (f .if2 .left) _ (t .ensures) (c .if3 .taken) }
 
 returns-4 : tie.Need-returns-4
 returns-4 c =
     let f = c .before .before in
     let e = f .before .before in
     let a = e .before .before .rows-and-cols in
-    record {
-      answer =
-          stray-yes _ _ _ _ (c .before .first-stray2 .ensures) (c .if3 .left)
-          ∙ stray-yes _ _ _ _ (f .before .first-stray .ensures) (f .if2 .left)
-          ∙ by-lists _ _ _ _ (a .ensures) (e .if1 .left);
-    }
+    let s = f .before .first-stray in
+    let t = c .before .first-stray2 in
+    record { answer = none-bad _ _ _ _ (a .ensures) (e .if1 .left) _ (s .ensures) (f .if2 .left) _ (t .ensures) (c .if3 .left) }
 
 pub check-lists-spec : {M : Type 1} → statement M
 check-lists-spec =

@@ -6,7 +6,6 @@ use native.Mathlib.Omega.{arith}
 use lib.ListN.{length, getD}
 use denote.Ref.{now}
 use borrow.Author.Needs.{needs}
-use Rattle.grid_laws.proofs.Neighbours.{cols-positive}
 use Rattle.lists.proofs.Stray.{WalkedTo, walked-none, walked-on, off-the-sheet, tested, stray-found, none-found}
 use Rattle.lists.proofs.first_stray.Statement.{statement}
 use Rattle.lists.proofs.first_stray.Tie as tie
@@ -40,7 +39,7 @@ returns c =
     (sym (off-the-sheet (a .g) (now (a .list)) (l .loop .i) (c .if1 .taken)))
 
 div-may-follow : tie.Need-div-may-follow Inv-loop μ-loop
-div-may-follow c = cols-positive (c .before .before .before .before .before .before .args .g) _ (c .if1 .left)
+div-may-follow c = c .before .before .before .before .before .before .pre .cols-low
 
 rem-may-follow : tie.Need-rem-may-follow Inv-loop μ-loop
 rem-may-follow c = div-may-follow c
@@ -50,7 +49,7 @@ may-follow-requires c κs =
     let l = c .before .before .before .before in
     let s = l .before .before in
     let cell = getD (now (s .args .list)) (l .loop .i) 0 in
-    let few = s .pre in
+    let few = s .pre .cells in
     let on = c .if1 .left in (
       l .loop .inv .row-fits,
       (l .loop .inv .col-fits, (omega (arith, div-le-self cell (s .args .g .cols)), omega (arith, mod-le cell (s .args .g .cols)))),
@@ -84,7 +83,7 @@ loop-again c =
     let l = e .before .before .before .before in
     let s = l .before .before in
     let a = s .args in
-    walked-on (a .g) (now (a .list)) (l .loop .i) (l .loop .row) (l .loop .col) (l .loop .inv) (s .pre) (omega arith) (e .if1 .left)
+    walked-on (a .g) (now (a .list)) (l .loop .i) (l .loop .row) (l .loop .col) (l .loop .inv) (s .pre .cells) (omega arith) (e .if1 .left)
     (tested (a .g) (now (a .list)) (l .loop .i) (l .loop .row) (l .loop .col) (e .if1 .left) (l .loop .inv .before)
     (c .before .may-follow .ensures)
     ∙ c .if2 .left)
