@@ -1,7 +1,7 @@
 /*
  * The walked stream and the computed one: stream CELL.. <sheet. The sheet is read as text (docs/FORMATS.md) from standard input; the cells,
- * each row * columns + column from 0, are those that a crew walked, in the order in which the water passes them. Prints the route that is
- * worked out from the first of them, and the part of the walk that both end with.
+ * each row * columns + column from 0, are those that a crew walked, in the order in which the water passes them. Prints them, the route that
+ * is worked out from the first of them, and the part of the walk that both end with.
  */
 #include "tervuola.h"
 #include <stdio.h>

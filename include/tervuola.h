@@ -306,8 +306,9 @@ tervuola_counted tervuola_pour_points(uint32_t rows, uint32_t cols,
  * Two streams, each a list of cells in the order in which the water passes them, a crew's walk and a route, say: whether each cell
  * lies on the sheet and is a neighbour of the one before it, at a side or a corner. A cell listed twice in a row is no neighbour of
  * itself; an empty list is accepted.
- * first, second: any number of cells. The first list is asked about first: its cells are in order if the call with an empty second
- * list (a null pointer will do) answers 0.
+ * first, second: any number of cells; the two may be one list, or overlap. The first is asked about first, and 19 does not say which
+ * list it means: ask about the first alone, with an empty second list (a null pointer will do); if that answers 0 the cell is one of
+ * the second.
  * Numbers: 5 6 19. Promise: ListsPromise. Linear in the lengths of the lists.
  */
 tervuola_located tervuola_check_lists(uint32_t rows, uint32_t cols,
@@ -316,10 +317,11 @@ tervuola_located tervuola_check_lists(uint32_t rows, uint32_t cols,
 
 /*
  * The longest ending that two such lists share, as a part of the first list: it reaches to that list's end, so at + count is
- * first_len. It is empty, at the first list's end, where the last cells differ, and for lists that tervuola_check_lists refuses: ask
- * that call to tell the two apart. If both lists are whole routes on one sheet of codes, the part begins at the first cell where
- * they meet, and is empty if they never do.
- * Promise: PartPromise; what is shown of routes: Endings.antt. Linear in the lengths of the lists.
+ * first_len. It is empty, at the first list's end, where a list is empty or the last cells differ, and for rows, columns and lists
+ * that tervuola_check_lists refuses: this call gives no number, so ask that one to tell them apart. If both lists are whole routes on
+ * one accepted sheet of codes (one that tervuola_counts accepts, or that tervuola_drain has worked out), the part begins at the first
+ * cell where they meet, and is empty if they never do.
+ * Promise: PartPromise; what is shown of routes: AllRoutesJoin and CodesOfCalls (Endings.antt). Linear in the lengths of the lists.
  */
 tervuola_part tervuola_shared_ending(uint32_t rows, uint32_t cols,
                                      const uint32_t *first, size_t first_len,

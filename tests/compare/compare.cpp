@@ -654,6 +654,27 @@ static void lists_round(const Desc &d, const V<u32> &first, const V<u32> &second
     fail("shared_ending", "where two routes meet", round);
   (at < a.size() ? routes_met : routes_apart) += !a.empty() && !b.empty();
 }
+// both lists in one piece of memory: the same list, and a list beside an ending or a beginning of itself
+static void one_list_round(const Desc &d, const V<u32> &list, gen::Rng &g, u64 round) {
+  u64 k = g.below(list.size() + 1), n = list.size();
+  const u32 *l = list.data();
+  V<u32> ending(list.begin() + (long)k, list.end()), beginning(list.begin(), list.begin() + (long)k);
+  lists_round(d, list, list, false, round);
+  lists_round(d, list, ending, false, round);
+  lists_round(d, list, beginning, false, round);
+  auto same = [&](u64 from, u64 count, const V<u32> &second) {
+    tervuola_part p = tervuola_shared_ending((u32)d.rows, (u32)d.cols, l, n, n ? l + from : l, count);
+    tervuola_part q = tervuola_shared_ending((u32)d.rows, (u32)d.cols, l, n, second.data(), second.size());
+    tervuola_located x = tervuola_check_lists((u32)d.rows, (u32)d.cols, l, n, n ? l + from : l, count);
+    tervuola_located y = tervuola_check_lists((u32)d.rows, (u32)d.cols, l, n, second.data(), second.size());
+    checks += 2;
+    if (p.at != q.at || p.count != q.count || x.number != y.number || x.place != y.place)
+      fail("shared_ending", "an answer about lists that overlap", round);
+  };
+  same(0, n, list);
+  same(k, n - k, ending);
+  same(0, k, beginning);
+}
 // every pair of lists of at most three cells, on or just off the sheet, on each sheet of at most four cells
 static void small_lists() {
   static const u64 sizes[][2] = {{1, 1}, {1, 2}, {2, 1}, {1, 3}, {3, 1}, {2, 2}, {1, 4}, {4, 1}};
@@ -674,20 +695,48 @@ static void small_lists() {
   }
   part = "round";
 }
-// routes on a large sheet, from its corners and cells between them; then one with its last cell off the sheet
+// the cells that flow into c
+static V<u32> donors(const Desc &d, const V<u8> &codes, u64 c) {
+  V<u32> l;
+  for (int p = 0; p < 8; p++) {
+    i64 j = at_step(d.rows, d.cols, c, p);
+    if (j >= 0 && codes[(u64)j] == 1u << ((p + 4) % 8))
+      l.push_back((u32)j);
+  }
+  return l;
+}
+// up from c, always by the donor with the largest count
+static u32 spring(const Desc &d, const V<u8> &codes, const V<u32> &counts, u32 c) {
+  for (V<u32> l = donors(d, codes, c); !l.empty(); l = donors(d, codes, c))
+    c = *std::max_element(l.begin(), l.end(), [&](u32 a, u32 b) { return counts[a] < counts[b]; });
+  return c;
+}
+// routes on a large sheet, whole, and with the last cell off the sheet: from a few cells, from the spring of the largest stream, and from those of
+// streams that run into it
 static void long_lists(const Desc &d, const V<u8> &codes) {
-  u64 longest = 0;
-  for (u64 a = 0; a < d.n(); a += d.n() / 7)
-    for (u64 b = 0; b < d.n(); b += d.n() / 7) {
+  V<u32> counts(d.n());
+  call_counts(d.rows, d.cols, codes, counts, 4 * d.n());
+  u32 mouth = (u32)(std::max_element(counts.begin(), counts.end()) - counts.begin());
+  V<u32> starts{0, (u32)(d.n() / 2), (u32)(d.n() - 1), mouth, spring(d, codes, counts, mouth)};
+  V<u32> stem = route_from(d.rows, d.cols, codes, starts.back());
+  for (u64 k = 1; k < stem.size() && starts.size() < 9; k++)
+    for (u32 c : donors(d, codes, stem[k]))
+      if (c != stem[k - 1] && k > (starts.size() - 5) * stem.size() / 6)
+        starts.push_back(spring(d, codes, counts, c));
+  u64 met = 0, longest = 0;
+  for (u32 a : starts)
+    for (u32 b : starts) {
       V<u32> first = route_from(d.rows, d.cols, codes, a), second = route_from(d.rows, d.cols, codes, b);
       tervuola_located x = tervuola_check_lists((u32)d.rows, (u32)d.cols, first.data(), first.size(), second.data(), second.size());
       tervuola_part p = tervuola_shared_ending((u32)d.rows, (u32)d.cols, first.data(), first.size(), second.data(), second.size());
+      u64 meet = first_meeting(first, second);
       checks += 2;
       if (x.number || x.place)
         fail("check_lists", "whole routes on an accepted sheet", a);
-      if (p.at != first_meeting(first, second) || p.count != first.size() - p.at)
+      if (p.at != meet || p.count != first.size() - meet)
         fail("shared_ending", "where two routes meet", a);
       longest = std::max<u64>(longest, first.size());
+      met += a != b && meet > 0 && meet < first.size();
       if (second.empty())
         continue;
       second.back() = (u32)d.n();
@@ -699,8 +748,11 @@ static void long_lists(const Desc &d, const V<u8> &codes) {
       if (p.at != first.size() || p.count)
         fail("shared_ending", "the part of lists that are refused", a);
     }
-  printf("compare: routes of up to %llu cells\n", (unsigned long long)longest);
+  printf("compare: routes of up to %llu cells, %llu pairs that meet past the first's beginning\n", (unsigned long long)longest, (unsigned long long)met);
+  if (longest < 3 || !met)
+    fail("shared_ending", "that routes meet at all", longest);
 }
+
 // two lists on a sheet of this size, as they are and damaged; d is the size that is said
 static void lists_rounds(u64 rows, u64 cols, const Desc &d, const V<u8> &codes, gen::Rng &g, u64 round) {
   V<u32> out(codes.size());
@@ -712,7 +764,7 @@ static void lists_rounds(u64 rows, u64 cols, const Desc &d, const V<u8> &codes, 
     if (whole && call_lists(rows, cols, wide(l.first), wide(l.second)).number)
       fail("check_lists", "whole routes on an accepted sheet", round);
     lists_round(d, l.first, l.second, whole, round);
-    lists_round(d, l.first, l.first, false, round);
+    one_list_round(d, l.first, g, round);
     V<u32> first(l.first), second(l.second);
     damage(g, rows * cols, second);
     lists_round(d, first, second, false, round);

@@ -1,6 +1,6 @@
 -- A gate is what is answered, given what is asked later. Either every question of it is answered by yes, and then what is asked later is
 -- the answer; or a no stands, whatever is asked later. Gates compose, so that a call's questions are one expression.
-use mathlib.Core.Path.{_≡_, sym, _∙_, ap}
+use mathlib.Core.Path.{_≡_, refl, sym, _∙_, ap}
 use mathlib.Core.Bool.{Bool, true, false, cond}
 use mathlib.Core.Logic.{_⊎_, inl, inr}
 use Prim.Native.Nat.{ℕ, _<_}
@@ -108,3 +108,7 @@ module _ {gate : Answer → Answer} {Fact : Type 0} (is : Gate gate Fact) {r : A
 
     pub next-yes : {holds : Bool} (a later : Answer) → holds ≡ true → later ≡ gate (ask holds a later)
     next-yes {holds} a later y = sym (cond-true later a y) ∙ answered-yes (ask holds a later)
+
+-- what a yes to every question of a gate says
+pub fact-of : {gate : Answer → Answer} {Fact : Type 0} → Gate gate Fact → T (isAccepted (gate accepted)) → Fact
+fact-of {gate} is t = passed is refl (number-zero (gate accepted) t) .fact

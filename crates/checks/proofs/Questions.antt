@@ -17,6 +17,7 @@ use Rattle.grid.specs.Checks.{refusal, accepted, ask, askCell, askReach, askCod
 use Rattle.grid.specs.Promises.{upToNine}
 use Rattle.grid_laws.proofs.Tests.{T-true, cond-true, cond-false, and-left, and-right, or-cases}
 use Rattle.grid_laws.proofs.Below.{first-≤}
+use Rattle.checks.proofs.Gate.{Gate, one, both, weaken}
 
 pub bad-≤ : (g : Grid) (codes : List ℕ) → firstBadCode g codes ≤ size g
 unfolding firstBadCode
@@ -31,6 +32,14 @@ cell-no number first g later h = cond-false later (refusal number first) (ne-eqb
 
 pub cell-yes : (number first : ℕ) (g : Grid) (later : Answer) → first ≡ size g → askCell number g first later ≡ later
 cell-yes number first g later e = cond-true later (refusal number first) (eq-eqb first (size g) e)
+
+pub cell-gate : (number first : ℕ) (g : Grid) → 0 < number → Gate (askCell number g first) (first ≡ size g)
+cell-gate number first g low = weaken (eqb-true first (size g)) (one (eqb first (size g)) number first low)
+
+-- 11 and 12
+pub codes-gate : (g : Grid) (codes : List ℕ) → Gate (askCodes g codes) ((firstBadCode g codes ≡ size g) × (firstEndless g codes ≡ size g))
+unfolding askCodes
+codes-gate g codes = both (cell-gate 11 (firstBadCode g codes) g (omega arith)) (cell-gate 12 (firstEndless g codes) g (omega arith))
 
 module _ (g : Grid) (codes : List ℕ) (later : Answer) where
   pub codes-bad : firstBadCode g codes < size g → askCodes g codes later ≡ refusal 11 (firstBadCode g codes)
@@ -88,6 +97,10 @@ codes-late g codes later L =
 pub stranded-≤ : (g : Grid) (e : List ℤ) → firstStranded g e ≤ size g
 unfolding firstStranded
 stranded-≤ g e = first-≤ (size g) _
+
+pub reach-gate : (g : Grid) (e : List ℤ) → Gate (askReach g e) (firstStranded g e ≡ size g)
+unfolding askReach
+reach-gate g e = cell-gate 18 (firstStranded g e) g (omega arith)
 
 module _ (g : Grid) (e : List ℤ) (later : Answer) where
   pub reach-no : firstStranded g e < size g → askReach g e later ≡ refusal 18 (firstStranded g e)

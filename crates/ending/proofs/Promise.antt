@@ -12,7 +12,7 @@ use Rattle.grid.specs.Checks.{isAccepted}
 use Rattle.grid.specs.Endings.{endingCheck, sharedEnding, EndsWith, LongestShared, Joins}
 use Rattle.grid.specs.Promises.{ListsPromise, SharedPart, PartPromise}
 use Rattle.grid_laws.proofs.Tests.{test, T-true, true-false, cond-true, cond-false}
-use Rattle.ending_laws.proofs.Longest.{is-longest, ending-again}
+use Rattle.ending_laws.proofs.Longest.{is-longest, apart-none, ending-is-rest}
 use Rattle.ending_laws.proofs.Joining.{all-routes-join}
 
 module _ (g : Grid) (first second : List ℕ) (r : Located) (checked : ListsPromise g first second r) where
@@ -23,6 +23,7 @@ module _ (g : Grid) (first second : List ℕ) (r : Located) (checked : ListsProm
       record {
         cells = e ∙ sym (cond-false _ _ no);
         longest = λ t. true-false (T-true _ t) no;
+        apart = λ _. e;
         routes = λ codes t a b p q.
             true-false (rw (sym p, sym q) at (ap isAccepted (all-routes-join g codes t a b .accepts))) no;
       }
@@ -30,11 +31,16 @@ module _ (g : Grid) (first second : List ℕ) (r : Located) (checked : ListsProm
   pub accepted-part : r .number ≡ 0 → (part : List ℕ) → part ≡ sharedEnding first second → SharedPart g first second part
   accepted-part z part e =
       let yes = ap isAccepted (sym (checked .answer)) ∙ eq-eqb (r .number) 0 z in
+      let longest = is-longest first second in
       record {
         cells = e ∙ sym (cond-true _ _ yes);
-        longest = λ t. subst (LongestShared first second) (sym e) (is-longest first second);
+        longest = λ _. subst (LongestShared first second) (sym e) longest;
+        apart = λ a. e ∙ apart-none first second (sharedEnding first second) (longest .ends-first) (longest .ends-second) a;
         routes = λ codes t a b p q.
-            subst (Joins first second) (sym e) (rw (sym p, sym q) at (all-routes-join g codes t a b .joins));
+            let join = all-routes-join g codes t a b in (
+              subst (Joins first second) (sym e) (rw (sym p, sym q) at (join .on-first)),
+              subst (Joins second first) (sym e) (rw (sym p, sym q) at (join .on-second)),
+            );
       }
 
 module _ (g : Grid) (first second part : List ℕ) (shared : SharedPart g first second part) where
@@ -46,12 +52,12 @@ module _ (g : Grid) (first second part : List ℕ) (shared : SharedPart g first 
       (test (isAccepted (endingCheck g first second)))
 
   pub part-fits : length part ≤ length first
-  part-fits = ending-again ends-first .0
+  part-fits = ending-is-rest ends-first .0
 
   pub by-place : PartPromise g first second (record { at = length first - length part; count = length part })
   by-place =
       let h = part-fits in
       record {
-        shared = subst (SharedPart g first second) (sym (ending-again ends-first .1)) shared;
+        shared = subst (SharedPart g first second) (sym (ending-is-rest ends-first .1)) shared;
         to-the-end = omega arith;
       }

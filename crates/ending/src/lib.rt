@@ -43,7 +43,7 @@ fn shared_length(first: &[u32], second: &[u32]) -> usize
     k
 }
 
-// Two lists of cells to the end of the first one.
+// Two lists of cells to the end of the first that both share.
 pub fn shared_ending<'a, 'b>(g: Grid, first: &'a [u32], second: &'b [u32]) -> &'a [u32]
     ensures { λ r. ⌜ EndingPromise g (first .entry) (second .entry) r ⌝ }
 {

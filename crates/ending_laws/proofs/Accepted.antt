@@ -2,26 +2,24 @@
 use mathlib.Core.Path.{_≡_, refl, _∙_, ap}
 use mathlib.Core.List.{List, [], _∷_}
 use Prim.Native.Nat.{ℕ}
-use native.Mathlib.Omega.{arith}
-use lib.Dec.{T, eqb}
+use lib.Dec.{T}
 use lib.ListN.{length}
 use lib.IntN.{ℤ}
-use borrow.Author.Tests.{eq-eqb, eqb-true}
+use borrow.Author.Tests.{eq-eqb}
 use Rattle.grid.specs.declared.Grid.{Grid}
 use Rattle.grid.specs.declared.Answer.{Answer}
-use Rattle.grid.specs.Sheet.{size, SixteenBits}
-use Rattle.grid.specs.Outlet.{firstStranded}
+use Rattle.grid.specs.Sheet.{gridOf, size, cellAt, neighbour, SixteenBits}
 use Rattle.grid.specs.Fill.{filled}
 use Rattle.grid.specs.Directions.{directions}
-use Rattle.grid.specs.Routes.{firstBadCode, firstEndless}
-use Rattle.grid.specs.Checks.{accepted, isAccepted, allHave, askSheets, askLengths, askReach, askCodes, codesCheck}
+use Rattle.grid.specs.Routes.{receiver, firstBadCode, firstEndless}
+use Rattle.grid.specs.Checks.{accepted, isAccepted, allHave, askSheets, askLengths, askCodes, codesCheck}
 use Rattle.grid.specs.Checks.{drainCheck}
 use Rattle.grid.specs.Endings.{AcceptedCodes, CodesOfCalls}
 use Rattle.grid_laws.proofs.Tests.{true-T, cond-true, and-true}
 use Rattle.checks.specs.Sizes.{Fits}
-use Rattle.checks.proofs.Gate.{Gate, one, both, weaken, passed, number-zero}
-use Rattle.checks.proofs.Asked.{sheets-gate, check-gate, outlets-check-gate, size-passes, lengths-asked}
-use Rattle.checks.proofs.Questions.{codes-yes}
+use Rattle.checks.proofs.Gate.{both, fact-of}
+use Rattle.checks.proofs.Asked.{sheets-gate, check-gate, outlets-check-gate, size-passes, same-fits, lengths-asked}
+use Rattle.checks.proofs.Questions.{codes-gate, reach-gate, codes-yes}
 use Rattle.guarantee_laws.proofs.OneCall.{codes-length, none-bad, all-end}
 
 -- rows, columns and length as they should be, each code 0 or one of the eight, every route ends
@@ -30,23 +28,6 @@ pub record Sound (g : Grid) (codes : List ℕ) : Type 0 where
   pub long : length codes ≡ size g
   pub all-codes : firstBadCode g codes ≡ size g
   pub all-end : firstEndless g codes ≡ size g
-
--- 11 and 12, and 18
-codes-gate : (g : Grid) (codes : List ℕ) → Gate (askCodes g codes) ((firstBadCode g codes ≡ size g) × (firstEndless g codes ≡ size g))
-unfolding askCodes
-codes-gate g codes =
-    weaken (λ f. (eqb-true (firstBadCode g codes) (size g) (f .0), eqb-true (firstEndless g codes) (size g) (f .1)))
-    (both (one (eqb (firstBadCode g codes) (size g)) 11 (firstBadCode g codes) (omega arith))
-    (one (eqb (firstEndless g codes) (size g)) 12 (firstEndless g codes) (omega arith)))
-
-reach-gate : (g : Grid) (e : List ℤ) → Gate (askReach g e) (firstStranded g e ≡ size g)
-unfolding askReach
-reach-gate g e =
-    weaken (eqb-true (firstStranded g e) (size g)) (one (eqb (firstStranded g e) (size g)) 18 (firstStranded g e) (omega arith))
-
--- what a yes to all questions of a gate says
-fact-of : {gate : Answer → Answer} {Fact : Type 0} → Gate gate Fact → T (isAccepted (gate accepted)) → Fact
-fact-of {gate} is t = passed is refl (number-zero (gate accepted) t) .fact
 
 pub sound-of : (g : Grid) (codes : List ℕ) → AcceptedCodes g codes → Sound g codes
 sound-of g codes t =
@@ -64,6 +45,17 @@ accepted-of g codes s =
     ∙ codes-yes g codes accepted (s .all-codes) (s .all-end) in
     true-T (ap isAccepted e)
 
+-- routes know no sides
+open-sound : (g : Grid) (codes : List ℕ) → Sound g codes → Sound (gridOf (g .rows) (g .cols)) codes
+unfolding firstBadCode firstEndless receiver neighbour cellAt
+open-sound g codes s =
+    record {
+      fits = same-fits (gridOf (g .rows) (g .cols)) g refl refl (s .fits);
+      long = s .long;
+      all-codes = s .all-codes;
+      all-end = s .all-end;
+    }
+
 from-codes : (g : Grid) (codes : List ℕ) (result work : ℕ) → T (isAccepted (codesCheck g codes result work)) → AcceptedCodes g codes
 unfolding codesCheck
 from-codes g codes result work t =
@@ -71,17 +63,18 @@ from-codes g codes result work t =
     accepted-of g codes (record { fits = f .0 .fits; long = f .0 .inputs-have .0; all-codes = f .1 .0; all-end = f .1 .1 })
 
 from-elevations : (g : Grid) (e : List ℤ) (f c a l work : ℕ) → SixteenBits e → T (isAccepted (drainCheck g e f c a l work)) →
-    AcceptedCodes g (directions g (filled g e))
+    AcceptedCodes (gridOf (g .rows) (g .cols)) (directions g (filled g e))
 unfolding drainCheck
 from-elevations g e f c a l work range t =
     let y = fact-of (both (outlets-check-gate g (length e ∷ []) (f ∷ c ∷ a ∷ l ∷ []) work) (reach-gate g e)) t in
     let long = y .0 .inputs-have .0 in
-    accepted-of g (directions g (filled g e)) (record {
+    accepted-of (gridOf (g .rows) (g .cols)) (directions g (filled g e))
+    (open-sound g (directions g (filled g e)) (record {
       fits = y .0 .fits;
       long = codes-length g e long range (y .1);
       all-codes = none-bad g e long range (y .1);
       all-end = all-end g e long range (y .1);
-    })
+    }))
 
 pub codes-of-calls : CodesOfCalls
 codes-of-calls = (from-codes, from-elevations)

@@ -1,8 +1,7 @@
 -- Whole routes on an accepted sheet of codes: each cell is one of the sheet, and a neighbour of the one before, since a code points at it;
 -- and they go on together from the first cell that both have.
 use mathlib.Core.Path.{_≡_, refl, sym, _∙_, ap}
-use mathlib.Core.Bool.{true, false, not}
-use mathlib.Core.Logic.{⊎-elim}
+use mathlib.Core.Bool.{true, false}
 use mathlib.Core.List.{List}
 use Prim.Native.Nat.{ℕ, zero, suc, _-_, _<_}
 use native.Mathlib.Omega.{arith}
@@ -11,16 +10,16 @@ use lib.ListN.{length, getD}
 use borrow.Author.Tests.{eq-eqb, lt-leb, ltb-true}
 use Rattle.grid.specs.declared.Grid.{Grid}
 use Rattle.grid.specs.Sheet.{size, neighbour}
-use Rattle.grid.specs.Routes.{follow, endsBy, hasCode, receiver, positionAt, route, firstEndless}
+use Rattle.grid.specs.Routes.{follow, hasCode, receiver, positionAt, route, firstEndless}
 use Rattle.grid.specs.Checks.{accepted}
 use Rattle.grid.specs.Endings.{areNeighbours, isStray, firstStray, askList, endingCheck, RoutesJoin, AllRoutesJoin}
-use Rattle.grid_laws.proofs.Tests.{test, cond-true, not-is-false, or-false, and-false-right, not-of-true}
-use Rattle.grid_laws.proofs.Below.{any-of, first-none, first-all}
-use Rattle.route_laws.specs.Ends.{EndsIn, Ends}
-use Rattle.route_laws.proofs.Routes.{ends-of, enough, short, dead-ends}
+use Rattle.grid_laws.proofs.Tests.{cond-true, or-false, and-false-right, not-of-true}
+use Rattle.grid_laws.proofs.Below.{any-of, first-none}
+use Rattle.route_laws.specs.Ends.{EndsIn, Ends, firstUnending}
+use Rattle.route_laws.proofs.Routes.{enough, short, all-end}
 use Rattle.route_laws.proofs.Receivers.{code-below}
 use Rattle.checks.proofs.Asked.{size-passes}
-use Rattle.ending_laws.proofs.Longest.{is-longest}
+use Rattle.ending_laws.proofs.Longest.{is-longest, turned}
 use Rattle.ending_laws.proofs.Meeting.{join, cell-live, cell-next}
 use Rattle.ending_laws.proofs.Accepted.{Sound, sound-of}
 
@@ -29,13 +28,8 @@ module _ (g : Grid) (codes : List ℕ) (ok : Sound g codes) where
   on-sheet c t = let b = code-below codes c t in let l = ok .long in omega arith
 
   ends : (c : ℕ) → Ends (hasCode codes) (receiver g codes) c
-  unfolding firstEndless
-  ends c =
-      ⊎-elim
-      (λ t.
-      let q = first-all (size g) (λ d. not (endsBy (hasCode codes) (receiver g codes) (size g) d)) (ok .all-end) c (on-sheet c t) in
-      ends-of (hasCode codes) (receiver g codes) (size g) c (not-is-false _ q))
-      (λ f. dead-ends (hasCode codes) (receiver g codes) c f) (test (hasCode codes c))
+  unfolding firstEndless firstUnending
+  ends = all-end (hasCode codes) (receiver g codes) (size g) on-sheet (ok .all-end)
 
   whole : (c k : ℕ) → EndsIn (hasCode codes) (receiver g codes) k c → route g codes c ≡ follow (hasCode codes) (receiver g codes) k c
   whole c k e =
@@ -82,13 +76,14 @@ module _ (g : Grid) (codes : List ℕ) (ok : Sound g codes) where
 
   routes-join : (a b : ℕ) → RoutesJoin g codes a b
   routes-join a b =
-      let e = ends a in
-      let f = ends b in
-      let p = whole a (e .0) (e .1) in
-      let q = whole b (f .0) (f .1) in
+      let (k, e) = ends a in
+      let (j, f) = ends b in
+      let p = whole a k e in
+      let q = whole b j f in
       record {
         accepts = lists-pass a b;
-        joins = rw (p, q) (join (hasCode codes) (receiver g codes) (e .0) (f .0) a b (e .1) (f .1) _ (is-longest _ _));
+        on-first = rw (p, q) (join (hasCode codes) (receiver g codes) k j a b e f _ (is-longest _ _));
+        on-second = rw (p, q) (join (hasCode codes) (receiver g codes) j k b a f e _ (turned (is-longest _ _)));
       }
 
 pub all-routes-join : AllRoutesJoin

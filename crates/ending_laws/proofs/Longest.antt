@@ -8,11 +8,11 @@ use native.Mathlib.Omega.{arith}
 use native.Mathlib.Decide.{decLe}
 use lib.Dec.{eqb}
 use lib.ListN.{length, getD, drop, take, length-append, length-drop, take-append-drop}
-use lib.Seq.{getD-drop, getD-append-add, ext-getD, length-take-le, drop-length}
+use lib.Seq.{getD-drop, getD-append-add, ext-getD, drop-length}
 use borrow.Rule.Slice.PartAt.{part-to-end}
 use borrow.Author.Tests.{eq-eqb, ne-eqb, eqb-true}
 use Rattle.grid.specs.Below.{firstBelow}
-use Rattle.grid.specs.Endings.{fromEnd, sharedLength, sharedEnding, EndsWith, LongestShared, EmptyIfApart}
+use Rattle.grid.specs.Endings.{fromEnd, sharedLength, sharedEnding, EndsWith, LongestShared, EndApart}
 use Rattle.grid_laws.proofs.Tests.{not-is-false, true-false}
 use Rattle.grid_laws.proofs.Below.{first-is, first-none, first-≤, first-before, first-found}
 
@@ -46,7 +46,7 @@ module _ (l m : List ℕ) where
   pub stops-after : (k : ℕ) → k ≡ min (length l) (length m) → AlikeTo l m k → k ≡ sharedLength l m
   stops-after k e a = e ∙ sym (shared-is ∙ first-none (min (length l) (length m)) differ (λ j i. alike-no j (a j (omega arith))))
 
-  pub shared-≤ : sharedLength l m ≤ min (length l) (length m)
+  shared-≤ : sharedLength l m ≤ min (length l) (length m)
   shared-≤ = rw shared-is (first-≤ (min (length l) (length m)) differ)
 
   shared-alike : AlikeTo l m (sharedLength l m)
@@ -67,14 +67,14 @@ from-end-of rest s k h =
     let e : length (rest ++ s) - (k + 1) ≡ length rest + (length s - (k + 1)) = omega arith in
     ap (λ (i : ℕ). getD (rest ++ s) i 0) e ∙ getD-append-add rest s (length s - (k + 1)) 0
 
-pub from-end : {l s : List ℕ} → EndsWith l s → (k : ℕ) → k < length s → fromEnd l k ≡ fromEnd s k
+from-end : {l s : List ℕ} → EndsWith l s → (k : ℕ) → k < length s → fromEnd l k ≡ fromEnd s k
 from-end {s = s} (rest, e) k h = ap (λ (x : List ℕ). fromEnd x k) (sym e) ∙ from-end-of rest s k h
 
 place-of : (a n i : ℕ) → n ≤ a → i < n → a - (n - (i + 1) + 1) ≡ a - n + i
 place-of a n i h l = omega arith
 
-before : (n i : ℕ) → i < n → n - (i + 1) < n
-before n i l = omega arith
+place-before : (n i : ℕ) → i < n → n - (i + 1) < n
+place-before n i l = omega arith
 
 -- two lists whose last n cells are alike end alike
 same-ending : (l m : List ℕ) (n : ℕ) → n ≤ length l → n ≤ length m → AlikeTo l m n → drop (length l - n) l ≡ drop (length m - n) m
@@ -84,7 +84,7 @@ same-ending l m n hl hm a =
     ext-getD 0 (drop (length l - n) l) (drop (length m - n) m) (omega arith)
     (λ i h.
     let k : i < n = omega arith in
-    let b = a (n - (i + 1)) (before n i k) in
+    let b = a (n - (i + 1)) (place-before n i k) in
     let u : length l - (n - (i + 1) + 1) ≡ length l - n + i = place-of (length l) n i hl k in
     let v : length m - (n - (i + 1) + 1) ≡ length m - n + i = place-of (length m) n i hm k in
     getD-drop (length l - n) l i 0
@@ -119,15 +119,19 @@ is-longest l m =
         let i : k < length other = omega arith in
         absurd (shared-differ l m (omega arith) (from-end e k i ∙ sym (from-end f k i)))
 
+-- and it is so of the second list and the first
+pub turned : {l m s : List ℕ} → LongestShared l m s → LongestShared m l s
+turned h = record { ends-first = h .ends-second; ends-second = h .ends-first; longest = λ other e f. h .longest other f e }
+
 -- the last cell of a shared ending is that of both lists
-pub empty-if-apart : EmptyIfApart
-empty-if-apart l m [] h c d e f n = refl
-empty-if-apart l m (x ∷ s) h c d e f n =
+pub apart-none : (l m s : List ℕ) → EndsWith l s → EndsWith m s → EndApart l m → s ≡ []
+apart-none l m [] e f a = refl
+apart-none l m (x ∷ s) e f a =
     let one : 0 < 1 = omega arith in
     let some : 0 < length (x ∷ s) = omega arith in
-    let a = sym (from-end e 0 one) ∙ from-end (h .ends-first) 0 some in
-    let b = sym (from-end f 0 one) ∙ from-end (h .ends-second) 0 some in
-    absurd (n (a ∙ sym b))
+    let p = sym (from-end (a .ends-first) 0 one) ∙ from-end e 0 some in
+    let q = sym (from-end (a .ends-second) 0 one) ∙ from-end f 0 some in
+    absurd (a .differ (p ∙ sym q))
 
 -- ---- the part of the first list
 
@@ -135,25 +139,17 @@ pub part-is : (l m : List ℕ) (k : ℕ) → k ≡ sharedLength l m → drop (le
 unfolding sharedEnding
 part-is l m k e = ap (λ (n : ℕ). drop (length l - n) l) e
 
--- where the part of the last k cells lies
-pub part-byte : (l : List ℕ) (k o : ℕ) → k ≤ length l →
-    (length l - k) * 4 + o ≡ o + 4 * (length l - length (take (length l - (length l - k)) (drop (length l - k) l)))
-part-byte l k o h =
-    let p = length-drop (length l - k) l in
-    let e : length (take (length l - (length l - k)) (drop (length l - k) l)) ≡ k =
-    length-take-le (length l - (length l - k)) (drop (length l - k) l) (omega arith) ∙ omega arith in
-    rw e (omega arith)
+-- where the part from the place a on lies
+pub part-byte : (l : List ℕ) (a o : ℕ) → a ≤ length l → a * 4 + o ≡ o + 4 * (length l - length (take (length l - a) (drop a l)))
+part-byte l a o h = let p = length-drop a l in rw (part-to-end l a) (omega arith)
 
 -- the empty part at the end of a list
 pub no-part : (l : List ℕ) → take (length l - length l) (drop (length l) l) ≡ []
 no-part l = part-to-end l (length l) ∙ drop-length l
 
-pub no-part-byte : (l : List ℕ) (o : ℕ) → length l * 4 + o ≡ o + 4 * (length l - length (take (length l - length l) (drop (length l) l)))
-no-part-byte l o = rw (no-part l) (omega arith)
-
 -- an ending is what is left after as many places as stand before it
-pub ending-again : {l s : List ℕ} → EndsWith l s → (length s ≤ length l) × (drop (length l - length s) l ≡ s)
-ending-again {l} {s} (rest, e) =
+pub ending-is-rest : {l s : List ℕ} → EndsWith l s → (length s ≤ length l) × (drop (length l - length s) l ≡ s)
+ending-is-rest {l} {s} (rest, e) =
     let p = ap length e in
     let q = length-append rest s in
     let k : length l - length s ≡ length rest = omega arith in

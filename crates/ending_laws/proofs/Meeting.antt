@@ -1,9 +1,9 @@
 -- Two routes that end, with no geometry, as the definitions of `Routes` in `grid`: from a common cell on both are that cell's route. A cell
 -- before the longest shared ending has a longer route than that ending, so it cannot lie on both.
-use mathlib.Core.Path.{_≡_, sym, _∙_, ap, subst}
+use mathlib.Core.Path.{_≡_, refl, sym, _∙_, ap, subst}
 use mathlib.Core.Bool.{Bool, true}
-use mathlib.Core.Logic.{inr, ⊎-elim}
-use mathlib.Core.List.{List, [], _∷_, _++_}
+use mathlib.Core.Logic.{inl, inr, ⊎-elim}
+use mathlib.Core.List.{List, [], _∷_, _++_, append-nil}
 use Prim.Native.Nat.{ℕ, zero, suc, _<_}
 use native.Mathlib.Omega.{arith}
 use lib.ListN.{length, getD, length-append}
@@ -12,24 +12,18 @@ use Rattle.grid.specs.Routes.{follow}
 use Rattle.grid.specs.Endings.{EndsWith, LongestShared, Joins}
 use Rattle.grid_laws.proofs.Tests.{test}
 use Rattle.route_laws.specs.Ends.{EndsIn}
-use Rattle.route_laws.proofs.Routes.{same-length, length-follow}
+use Rattle.route_laws.proofs.Routes.{in-live, same-length, length-follow}
 
 in-right : (x : ℕ) (l m : List ℕ) → In x m → In x (l ++ m)
 in-right x [] m i = i
 in-right x (y ∷ l) m i = inr (in-right x l m i)
 
-module _ (live : ℕ → Bool) (next : ℕ → ℕ) where
-  -- from a cell of a route on, it is that cell's route
-  from-cell : (k c x : ℕ) → EndsIn live next k c → In x (follow live next k c) →
-      (j : ℕ) × EndsIn live next j x × EndsWith (follow live next k c) (follow live next j x)
-  unfolding follow
-  from-cell zero c x e i = absurd i
-  from-cell (suc k) c x e i =
-      ⊎-elim
-      (λ q. (suc k, subst (λ (y : ℕ). EndsIn live next (suc k) y) (sym q) e, ([], ap (λ (y : ℕ). follow live next (suc k) y) q)))
-      (λ i. let r = from-cell k (next c) x (e .1) i in (r .0, r .1, (c ∷ r .2 .0, rw (e .0) (ap (λ (l : List ℕ). c ∷ l) (r .2 .1)))))
-      (rw (e .0) at i)
+place-in : (l : List ℕ) (i : ℕ) → i < length l → In (getD l i 0) l
+place-in [] i h = absurd (omega arith)
+place-in (x ∷ l) zero h = inl refl
+place-in (x ∷ l) (suc i) h = inr (place-in l i (omega arith))
 
+module _ (live : ℕ → Bool) (next : ℕ → ℕ) where
   -- a cell before the ending s of a route has a longer route than s
   longer-before : (before s : List ℕ) (k c x : ℕ) → EndsIn live next k c → before ++ s ≡ follow live next k c → In x before →
       (j : ℕ) × EndsIn live next j x × EndsWith (follow live next k c) (follow live next j x) × (length s < j)
@@ -58,6 +52,12 @@ module _ (live : ℕ → Bool) (next : ℕ → ℕ) where
       q₂ : before ++ s ≡ follow live next k (next c)
       q₂ = cc p
 
+  -- from a cell of a route on, it is that cell's route
+  from-cell : (k c x : ℕ) → EndsIn live next k c → In x (follow live next k c) →
+      (j : ℕ) × EndsIn live next j x × EndsWith (follow live next k c) (follow live next j x)
+  from-cell k c x e i =
+      let r = longer-before (follow live next k c) [] k c x e (append-nil (follow live next k c)) i in (r .0, r .1, r .2)
+
   -- two routes that end: their longest shared ending is where they join
   pub join : (k j a b : ℕ) → EndsIn live next k a → EndsIn live next j b → (s : List ℕ) →
       LongestShared (follow live next k a) (follow live next j b) s → Joins (follow live next k a) (follow live next j b) s
@@ -65,14 +65,14 @@ module _ (live : ℕ → Bool) (next : ℕ → ℕ) where
       record {
         before = h .ends-first .0;
         whole = h .ends-first .1;
-        apart = λ x i m. apart x (longer-before (h .ends-first .0) s k a x e (h .ends-first .1) i) (from-cell j b x f m);
+        none-before = λ x i m. not-both x (longer-before (h .ends-first .0) s k a x e (h .ends-first .1) i) (from-cell j b x f m);
         together = λ x i. subst (λ (l : List ℕ). In x l) (h .ends-second .1) (in-right x (h .ends-second .0) s i);
       }
     where
-      apart : (x : ℕ) →
+      not-both : (x : ℕ) →
           ((i : ℕ) × EndsIn live next i x × EndsWith (follow live next k a) (follow live next i x) × (length s < i)) →
           ((i : ℕ) × EndsIn live next i x × EndsWith (follow live next j b) (follow live next i x)) → ⊥
-      apart x (i, ei, wi, l) (m, em, wm) =
+      not-both x (i, ei, wi, l) (m, em, wm) =
           let q : m ≡ i = same-length live next m i x em ei in
           let o = h .longest (follow live next i x) wi (subst (λ (y : ℕ). EndsWith (follow live next j b) (follow live next y x)) q wm) in
           let n = length-follow live next i x ei in
@@ -81,17 +81,7 @@ module _ (live : ℕ → Bool) (next : ℕ → ℕ) where
   -- ---- the cells of a route in turn
 
   pub cell-live : (k c i : ℕ) → i < length (follow live next k c) → live (getD (follow live next k c) i 0) ≡ true
-  unfolding follow
-  cell-live zero c i h = absurd (omega arith)
-  cell-live (suc k) c i h =
-      ⊎-elim (λ t. rw t (go t i (rw t at h) (λ j m. cell-live k (next c) j m))) (λ f. let w = rw f at h in absurd (omega arith))
-      (test (live c))
-    where
-      go : live c ≡ true → (i : ℕ) → i < suc (length (follow live next k (next c))) →
-          ((j : ℕ) → j < length (follow live next k (next c)) → live (getD (follow live next k (next c)) j 0) ≡ true) →
-          live (getD (c ∷ follow live next k (next c)) i 0) ≡ true
-      go t zero h r = t
-      go t (suc i) h r = r i (omega arith)
+  cell-live k c i h = in-live live next k c (getD (follow live next k c) i 0) (place-in (follow live next k c) i h)
 
   pub cell-next : (k c i : ℕ) → suc i < length (follow live next k c) →
       getD (follow live next k c) (suc i) 0 ≡ next (getD (follow live next k c) i 0)

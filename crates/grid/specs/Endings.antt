@@ -11,9 +11,8 @@ use lib.IntN.{ℤ}
 use denote.Ref.{RefT, now}
 use Rattle.grid.specs.declared.Grid.{Grid}
 use Rattle.grid.specs.declared.Answer.{Answer}
-use Rattle.grid.specs.declared.Located.{Located}
 use Rattle.grid.specs.Below.{In, anyBelow, firstBelow}
-use Rattle.grid.specs.Sheet.{size, neighbour, SixteenBits}
+use Rattle.grid.specs.Sheet.{gridOf, size, neighbour, SixteenBits}
 use Rattle.grid.specs.Fill as F
 use Rattle.grid.specs.Directions.{directions}
 use Rattle.grid.specs.Routes.{route}
@@ -40,10 +39,6 @@ askList g l later = ask (eqb (firstStray g l) (length l)) (refusal 19 (firstStra
 -- "Checks: after 6, 19 .., first list first"
 unfoldable pub endingCheck : Grid → List ℕ → List ℕ → Answer
 endingCheck g first second = askSize g (askList g first (askList g second accepted))
-
--- the number and place of an answer whose place is one in a list
-abbrev pub ofLocated : Located → Answer
-ofLocated r = record { number = r .number; place = r .place }
 
 -- ---- the part
 
@@ -73,10 +68,13 @@ pub record EndOf (whole part : RefT (List ℕ)) : Type 0 where
   pub block : part .ptr .0 ≡ whole .ptr .0
   pub byte : part .ptr .1 ≡ whole .ptr .1 + 4 * (length (now whole) - length (now part))
 
--- "empty if they end apart": where the last cells are two
-abbrev pub EmptyIfApart : Type 0
-EmptyIfApart =
-    (l m s : List ℕ) → LongestShared l m s → (c d : ℕ) → EndsWith l (c ∷ []) → EndsWith m (d ∷ []) → (c ≡ d → ⊥) → s ≡ []
+-- two lists "end apart": their last cells differ
+pub record EndApart (l m : List ℕ) : Type 0 where
+  pub last-first : ℕ
+  pub last-second : ℕ
+  pub ends-first : EndsWith l (last-first ∷ [])
+  pub ends-second : EndsWith m (last-second ∷ [])
+  pub differ : last-first ≡ last-second → ⊥
 
 -- ---- whole routes
 
@@ -85,7 +83,7 @@ EmptyIfApart =
 pub record Joins (l m s : List ℕ) : Type 0 where
   pub before : List ℕ
   pub whole : before ++ s ≡ l
-  pub apart : (x : ℕ) → In x before → In x m → ⊥
+  pub none-before : (x : ℕ) → In x before → In x m → ⊥
   pub together : (x : ℕ) → In x s → In x m
 
 -- "one accepted sheet of codes": 5, 6, 7, 11 and 12, as every call from codes asks them
@@ -93,18 +91,20 @@ abbrev pub AcceptedCodes : Grid → List ℕ → Type 0
 AcceptedCodes g codes = T (isAccepted (askSheets g (length codes ∷ []) [] (askCodes g codes accepted)))
 
 -- "If both are whole routes on one accepted sheet of codes, that part begins at the first cell where they meet": such lists are accepted,
--- and their shared ending is where they join
+-- and their shared ending is where they join, on the one and on the other
 pub record RoutesJoin (g : Grid) (codes : List ℕ) (a b : ℕ) : Type 0 where
   pub accepts : endingCheck g (route g codes a) (route g codes b) ≡ accepted
-  pub joins : Joins (route g codes a) (route g codes b) (sharedEnding (route g codes a) (route g codes b))
+  pub on-first : Joins (route g codes a) (route g codes b) (sharedEnding (route g codes a) (route g codes b))
+  pub on-second : Joins (route g codes b) (route g codes a) (sharedEnding (route g codes a) (route g codes b))
 
 abbrev pub AllRoutesJoin : Type 0
 AllRoutesJoin = (g : Grid) (codes : List ℕ) → AcceptedCodes g codes → (a b : ℕ) → RoutesJoin g codes a b
 
--- codes that the counts or the labels call accepts are such a sheet, and so are those that the one call works out. Every lent `&[i16]`
--- meets the condition on elevations
+-- codes that the counts or the labels call accepts are such a sheet, and so are those that the one call works out, whichever sides are
+-- closed: what sees codes only knows no sides. Every lent `&[i16]` meets the condition on elevations
 abbrev pub CodesOfCalls : Type 0
 CodesOfCalls =
     ((g : Grid) (codes : List ℕ) (result work : ℕ) → T (isAccepted (codesCheck g codes result work)) → AcceptedCodes g codes)
     × ((g : Grid) (e : List ℤ) (filled codes counts labels work : ℕ) → SixteenBits e →
-    T (isAccepted (drainCheck g e filled codes counts labels work)) → AcceptedCodes g (directions g (F.filled g e)))
+    T (isAccepted (drainCheck g e filled codes counts labels work)) →
+    AcceptedCodes (gridOf (g .rows) (g .cols)) (directions g (F.filled g e)))

@@ -7,7 +7,6 @@ use lib.ListN.{length}
 use borrow.Author.Tests.{eq-eqb, ne-eqb}
 use Rattle.grid.specs.declared.Grid.{Grid}
 use Rattle.grid.specs.declared.Answer.{Answer}
-use Rattle.grid.specs.Sheet.{size}
 use Rattle.grid.specs.Checks.{refusal, accepted, askSize}
 use Rattle.grid.specs.Endings.{isStray, firstStray, askList, endingCheck}
 use Rattle.grid_laws.proofs.Tests.{cond-true, cond-false}

@@ -8,14 +8,14 @@ use native.Mathlib.Omega.{arith}
 use lib.Dec.{eqb}
 use lib.ListN.{length, getD}
 use borrow.Author.Count.{below-more}
-use borrow.Author.Tests.{ne-eqb, le-leb, lt-leb, lt-ltb, leb-false}
+use borrow.Author.Tests.{ne-eqb, le-leb, lt-leb, lt-ltb}
 use Rattle.grid.specs.declared.Grid.{Grid}
 use Rattle.grid.specs.Sheet.{size}
 use Rattle.grid.specs.Endings.{isStray, firstStray}
-use Rattle.grid_laws.proofs.Tests.{or-left, or-false, or-none-left}
+use Rattle.grid_laws.proofs.Tests.{or-left, or-false}
+use Rattle.grid_laws.proofs.Below.{first-is, first-none}
 use Rattle.lists.specs.Beside.{areBeside}
 use Rattle.lists.proofs.Beside.{beside-is}
-use Rattle.grid_laws.proofs.Below.{first-is, first-none}
 
 module _ (g : Grid) (l : List ℕ) (i : ℕ) where
   pub off-the-sheet : size g ≤ getD l i 0 → true ≡ isStray g l i
@@ -28,17 +28,12 @@ module _ (g : Grid) (l : List ℕ) (i : ℕ) where
     pub row-is : row ≡ getD l (i - 1) 0 / g .cols
     pub col-is : col ≡ getD l (i - 1) 0 % g .cols
 
-  -- a place that is not stray holds a cell of the sheet
-  pub on-the-sheet : isStray g l i ≡ false → getD l i 0 < size g
-  unfolding isStray
-  on-the-sheet f = leb-false (size g) (getD l i 0) (or-none-left _ _ f)
-
 -- a cell on the sheet, by what is kept of the one before
-by-step : (g : Grid) (l : List ℕ) (i row col : ℕ) → getD l i 0 < size g → (0 < i → Before g l i row col) →
+by-place : (g : Grid) (l : List ℕ) (i row col : ℕ) → getD l i 0 < size g → (0 < i → Before g l i row col) →
     not (eqb i 0 || areBeside row col (getD l i 0 / g .cols) (getD l i 0 % g .cols)) ≡ isStray g l i
 unfolding isStray
-by-step g l zero row col h b = sym (or-false (lt-leb (size g) (getD l 0 0) h) refl)
-by-step g l (suc k) row col h b =
+by-place g l zero row col h b = sym (or-false (lt-leb (size g) (getD l 0 0) h) refl)
+by-place g l (suc k) row col h b =
     let w = b (omega arith) in
     let c = getD l (suc k - 1) 0 in
     let n = getD l (suc k) 0 in
@@ -48,7 +43,7 @@ by-step g l (suc k) row col h b =
 
 pub tested : (g : Grid) (l : List ℕ) (i row col : ℕ) → getD l i 0 < size g → (0 < i → Before g l i row col) → {b : Bool} →
     b ≡ (eqb i 0 || areBeside row col (getD l i 0 / g .cols) (getD l i 0 % g .cols)) → isStray g l i ≡ not b
-tested g l i row col h w e = sym (ap not e ∙ by-step g l i row col h w)
+tested g l i row col h w e = sym (ap not e ∙ by-place g l i row col h w)
 
 -- no place below i is stray
 abbrev pub Straight : Grid → List ℕ → ℕ → Type 0

@@ -1,3 +1,4 @@
+-- Two cells beside each other, by rows and columns alone.
 use mathlib.Core.Bool.{Bool, not, _&&_}
 use Prim.Native.Nat.{ℕ, _+_}
 use lib.Dec.{eqb, leb}

@@ -1,2 +1,2 @@
--- Two cells beside each other, by their rows and columns.
+-- What the tests of this crate answer.
 pub mod Beside

@@ -42,7 +42,8 @@ fn are_neighbours(r: usize, q: usize, s: usize, t: usize) -> bool
     3 * (s + 1 - r) + (t + 1 - q) != 4
 }
 
-// Whether the second cell may stand at the place `i` of a list, behind the first one; before the place 0 there is none.
+// Whether the cell in row `s`, column `t` may stand at the place `i` of a list, behind the one in row `r`, column `q`; before the first
+// place there is none.
 fn may_follow(i: usize, r: usize, q: usize, s: usize, t: usize) -> bool
     requires { ⌜ r < 2 ^ 24 ⌝ }
     requires { ⌜ q < 2 ^ 24 ⌝ }
@@ -71,11 +72,13 @@ fn first_stray(g: Grid, list: &[u32]) -> usize
         if cell >= g.rows * cols {
             return i;
         }
-        if !may_follow(i, row, col, cell / cols, cell % cols) {
+        let next_row = cell / cols;
+        let next_col = cell % cols;
+        if !may_follow(i, row, col, next_row, next_col) {
             return i;
         }
-        row = cell / cols;
-        col = cell % cols;
+        row = next_row;
+        col = next_col;
         i += 1;
     }
     i

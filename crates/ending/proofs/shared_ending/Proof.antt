@@ -1,10 +1,11 @@
 -- `ending::shared_ending`: no cell behind a no, and the last cells that are alike behind a yes; both parts end where the first list does.
 use mathlib.Core.Path.{refl, _∙_}
 use Prim.Native.Nat.{_-_}
+use native.Mathlib.Omega.{arith}
 use lib.ListN.{length}
 use borrow.Rule.Slice.PartAt.{part-to-end}
 use borrow.Author.Needs.{needs}
-use Rattle.ending_laws.proofs.Longest.{part-is, part-byte, no-part, no-part-byte}
+use Rattle.ending_laws.proofs.Longest.{part-is, part-byte, no-part}
 use Rattle.ending.proofs.Promise.{refused-part, accepted-part}
 use Rattle.ending.proofs.shared_ending.Statement.{statement}
 use Rattle.ending.proofs.shared_ending.Tie as tie
@@ -32,7 +33,7 @@ returns c =
     let l = s .first .now in
     record {
       shared = refused-part (s .g) l (s .second .now) (a .check-lists .result) (a .check-lists .ensures) (t .if1 .taken) _ (no-part l);
-      itself = record { block = refl; byte = no-part-byte l (s .first .ptr .1) };
+      itself = record { block = refl; byte = part-byte l (length l) (s .first .ptr .1) (omega arith) };
     }
 
 shared-length-requires : tie.Need-shared-length-requires
@@ -63,7 +64,7 @@ returns-2 c =
     let part = part-to-end l (length l - k .result) ∙ part-is l (s .second .now) (k .result) (k .ensures .0) in
     record {
       shared = accepted-part (s .g) l (s .second .now) (a .check-lists .result) (a .check-lists .ensures) (e .if1 .left) _ part;
-      itself = record { block = refl; byte = part-byte l (k .result) (s .first .ptr .1) (k .ensures .1) };
+      itself = record { block = refl; byte = part-byte l (length l - k .result) (s .first .ptr .1) (omega arith) };
     }
 
 pub shared-ending-spec : {M : Type 1} → statement M

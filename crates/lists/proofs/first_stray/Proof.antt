@@ -38,11 +38,11 @@ returns c =
     stray-found (a .g) (now (a .list)) (l .loop .i) (l .loop .inv .straight) (omega arith)
     (sym (off-the-sheet (a .g) (now (a .list)) (l .loop .i) (c .if1 .taken)))
 
-div-may-follow : tie.Need-div-may-follow Inv-loop μ-loop
-div-may-follow c = c .before .before .before .before .before .before .pre .cols-low
+div-next-row : tie.Need-div-next-row Inv-loop μ-loop
+div-next-row c = c .before .before .before .before .before .before .pre .cols-low
 
-rem-may-follow : tie.Need-rem-may-follow Inv-loop μ-loop
-rem-may-follow c = div-may-follow c
+rem-next-col : tie.Need-rem-next-col Inv-loop μ-loop
+rem-next-col c = div-next-row c
 
 may-follow-requires : tie.Need-may-follow-requires Inv-loop μ-loop
 may-follow-requires c κs =
@@ -64,12 +64,6 @@ returns-2 c =
     (tested (a .g) (now (a .list)) (l .loop .i) (l .loop .row) (l .loop .col) (e .if1 .left) (l .loop .inv .before)
     (c .before .may-follow .ensures)
     ∙ c .if2 .taken)
-
-div-row : tie.Need-div-row Inv-loop μ-loop
-div-row c = div-may-follow (c .before .before)
-
-rem-col : tie.Need-rem-col Inv-loop μ-loop
-rem-col c = div-may-follow (c .before .before)
 
 add-i : tie.Need-add-i Inv-loop μ-loop
 add-i c = search needs
@@ -106,12 +100,10 @@ first-stray-spec =
     cast-cell
     mul-if1
     returns
-    div-may-follow
-    rem-may-follow
+    div-next-row
+    rem-next-col
     may-follow-requires
     returns-2
-    div-row
-    rem-col
     add-i
     loop-less
     loop-again
