@@ -695,6 +695,22 @@ static void small_lists() {
   }
   part = "round";
 }
+// sizes in range, at its ends and out of it, each with lists that have no cell, cells on such a sheet, and cells on none
+static void list_sizes() {
+  static const u64 sizes[][2] = {{0, 0}, {0, 3}, {3, 0}, {0, 4001}, {4001, 0}, {4001, 4001}, {4001, 3}, {3, 4001}, {65536, 65536},
+                                 {4294967295u, 4294967295u}, {1, 1}, {1, 4000}, {4000, 1}, {4000, 4000}};
+  static const V<V<u32>> lists{{}, {0}, {0, 1}, {1, 0}, {0, 0}, {3, 9}, {3999}, {4000}, {15999999}, {16000000}, {4294967295u}};
+  part = "size of a list's sheet";
+  for (u64 i = 0; i < sizeof sizes / sizeof *sizes; i++) {
+    Desc d;
+    d.rows = sizes[i][0];
+    d.cols = sizes[i][1];
+    for (auto &a : lists)
+      for (auto &b : lists)
+        lists_round(d, a, b, false, i);
+  }
+  part = "round";
+}
 // the cells that flow into c
 static V<u32> donors(const Desc &d, const V<u8> &codes, u64 c) {
   V<u32> l;
@@ -873,6 +889,7 @@ static int rounds(u64 count, u64 seed) {
   small_sheets(seed);
   write_sizes(seed);
   small_lists();
+  list_sizes();
   for (u64 i = 0; i < count; i++) {
     gen::Rng g(seed * 1000003 + i);
     u64 side = g.chance(70) ? 9 : g.chance(70) ? 20 : 40;
