@@ -93,7 +93,7 @@ int main(int argc, char **argv)
     make_tables(s);
     /* a small sheet is worked out many times between two readings of the clock */
     int times = n < 100000 ? (int)(2000000 / n) + 1 : 1;
-    double base[B_N], ours[B_N], listed = 1e300, opened = 1e300, closed = 1e300;
+    double base[B_N], ours[B_N], listed = 1e300, opened = 1e300, closed = 1e300, oblong = 1e300;
     const uint32_t all_but_south = TERVUOLA_CLOSED_WEST + TERVUOLA_CLOSED_EAST + TERVUOLA_CLOSED_NORTH;
     uint32_t cell = s.cells / 2; /* the first data cell from the middle on, round the sheet */
     for (size_t k = 1; k < n && z[cell] == TERVUOLA_VOID; k++) cell = (cell + 1) % s.cells;
@@ -125,7 +125,7 @@ int main(int argc, char **argv)
             double a = now();
             accepted(tervuola_fill(s.rows, s.cols, 0, z, n, f2, n, work, work_len));
             double b = now();
-            accepted(tervuola_directions(s.rows, s.cols, 0, f, n, code2, n, work, work_len));
+            accepted(tervuola_directions(s.rows, s.cols, 0, 1, 1, f, n, code2, n, work, work_len));
             double c = now();
             accepted(tervuola_counts(s.rows, s.cols, code, n, acc2, n, work, work_len));
             double d = now();
@@ -137,15 +137,20 @@ int main(int argc, char **argv)
         clear(library, n);
         for (int k = 0; k < times; k++) {
             double a = now();
-            accepted(tervuola_drain(s.rows, s.cols, 0, z, n, f2, n, code2, n, acc2, n, lab2, n, work, work_len));
+            accepted(tervuola_drain(s.rows, s.cols, 0, 1, 1, z, n, f2, n, code2, n, acc2, n, lab2, n, work, work_len));
             u[4] += now() - a;
         }
         same_four("the one call", expert, library, n);
         for (int k = 0; k < B_N; k++) least(&ours[k], u[k]);
+        accepted(tervuola_directions(s.rows, s.cols, 0, 7, 7, f, n, code2, n, work, work_len));
+        same("square cells of any width", "the codes", code2, code, n);
         clear(library, n);
         double begun = now();
+        for (int k = 0; k < times; k++) accepted(tervuola_directions(s.rows, s.cols, 0, 3, 4, f, n, code2, n, work, work_len));
+        least(&oblong, now() - begun);
+        begun = now();
         for (int k = 0; k < times; k++)
-            accepted(tervuola_drain(s.rows, s.cols, all_but_south, z, n, f2, n, code2, n, acc2, n, lab2, n, work, work_len));
+            accepted(tervuola_drain(s.rows, s.cols, all_but_south, 1, 1, z, n, f2, n, code2, n, acc2, n, lab2, n, work, work_len));
         least(&closed, now() - begun);
         for (size_t c = 0; c < n; c++) /* water has fewer ways out */
             if (f2[c] < f[c]) {
@@ -157,7 +162,7 @@ int main(int argc, char **argv)
             clear(library, n);
             for (int k = 0; k < times; k++) {
                 double a = now();
-                accepted(tervuola_culvert(s.rows, s.cols, 0, z, n, cell, z[cell], f2, n, code2, n, acc2, n, lab2, n, work, work_len));
+                accepted(tervuola_culvert(s.rows, s.cols, 0, 1, 1, z, n, cell, z[cell], f2, n, code2, n, acc2, n, lab2, n, work, work_len));
                 o += now() - a;
             }
             least(&opened, o);
@@ -180,6 +185,7 @@ int main(int argc, char **argv)
     for (int k = 0; k < B_N; k++) line(names[k], "baseline", base[k], ours[k], (double)n * times);
     line("ponds", "fill", ours[B_FILL], listed, (double)n * times);
     if (z[cell] != TERVUOLA_VOID) line("culvert", "one call", ours[B_ALL], opened, (double)n * times);
+    line("oblong", "square", ours[B_DIR], oblong, (double)n * times);
     line("closed", "one call", ours[B_ALL], closed, (double)n * times);
     return 0;
 }

@@ -45,7 +45,7 @@ int main(int argc, char **argv)
     size_t n = (size_t)d.rows * d.cols;
     tervuola_answer a = tervuola_fill(d.rows, d.cols, 0, elevations, n, plain, n, work, 4 * CELLS);
     if (a.number != TERVUOLA_OK) return refused(a.number, a.place);
-    a = tervuola_culvert(d.rows, d.cols, 0, elevations, n, (uint32_t)cell, (int16_t)level, filled, n, codes, n, counts, n, labels, n, work, 4 * CELLS);
+    a = tervuola_culvert(d.rows, d.cols, 0, 1, 1, elevations, n, (uint32_t)cell, (int16_t)level, filled, n, codes, n, counts, n, labels, n, work, 4 * CELLS);
     if (a.number != TERVUOLA_OK) return refused(a.number, a.place);
     print_sheet("filled, without the culvert:", plain, d.rows, d.cols);
     print_sheet("filled, with it:", filled, d.rows, d.cols);

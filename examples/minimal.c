@@ -8,7 +8,7 @@ int main(void)
     int16_t filled[9];
     uint8_t codes[9];
     uint32_t counts[9], labels[9], work[36];
-    tervuola_answer answer = tervuola_drain(3, 3, 0, elevations, 9, filled, 9, codes, 9, counts, 9, labels, 9, work, 36);
+    tervuola_answer answer = tervuola_drain(3, 3, 0, 1, 1, elevations, 9, filled, 9, codes, 9, counts, 9, labels, 9, work, 36);
     if (answer.number != TERVUOLA_OK) {
         fprintf(stderr, "%s (place %u)\n", tervuola_text(answer.number), (unsigned)answer.place);
         return 1;

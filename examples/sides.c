@@ -39,7 +39,7 @@ int main(int argc, char **argv)
     size_t n = (size_t)d.rows * d.cols;
     tervuola_answer a = tervuola_fill(d.rows, d.cols, 0, elevations, n, plain, n, work, 4 * CELLS);
     if (a.number != TERVUOLA_OK) return refused(a.number, a.place);
-    a = tervuola_drain(d.rows, d.cols, (uint32_t)sides, elevations, n, filled, n, codes, n, counts, n, labels, n, work, 4 * CELLS);
+    a = tervuola_drain(d.rows, d.cols, (uint32_t)sides, 1, 1, elevations, n, filled, n, codes, n, counts, n, labels, n, work, 4 * CELLS);
     if (a.number != TERVUOLA_OK) return refused(a.number, a.place);
     print_sheet("filled, with every side open:", plain, d.rows, d.cols);
     print_sheet("filled, with closed sides:", filled, d.rows, d.cols);

@@ -66,7 +66,7 @@ int main(int argc, char **argv)
     tervuola_dimensions d = tervuola_read(text, length, elevations, CELLS);
     if (d.number != TERVUOLA_OK) return refused(d.number, d.place);
     size_t n = (size_t)d.rows * d.cols;
-    tervuola_answer a = tervuola_drain(d.rows, d.cols, 0, elevations, n, filled, n, codes, n, counts, n, labels, n, work, 4 * CELLS);
+    tervuola_answer a = tervuola_drain(d.rows, d.cols, 0, 1, 1, elevations, n, filled, n, codes, n, counts, n, labels, n, work, 4 * CELLS);
     if (a.number != TERVUOLA_OK) return refused(a.number, a.place);
     /* the walk alone, so that the place is one of it and its first cell can be followed */
     tervuola_located l = tervuola_check_lists(d.rows, d.cols, walk, walked, NULL, 0);

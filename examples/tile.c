@@ -235,7 +235,7 @@ int main(int argc, char **argv)
     uint8_t *codes = room(n, 1);
     uint32_t *counts = room(n, 4), *labels = room(n, 4), *work = room(work_len, 4);
     fprintf(stderr, "tile: working out %u by %u cells\n", (unsigned)t.rows, (unsigned)t.cols);
-    tervuola_answer a = tervuola_drain(t.rows, t.cols, 0, t.elevations, n, filled, n, codes, n, counts, n, labels, n, work, work_len);
+    tervuola_answer a = tervuola_drain(t.rows, t.cols, 0, 1, 1, t.elevations, n, filled, n, codes, n, counts, n, labels, n, work, work_len);
     if (a.number != TERVUOLA_OK) {
         fprintf(stderr, "tile: refused with %u: %s (place %u)\n", (unsigned)a.number, tervuola_text(a.number), (unsigned)a.place);
         return 1;

@@ -24,6 +24,13 @@
  * to an outlet, as one with four closed sides and no void, is refused with 18. All other calls know no sides: those that see codes
  * only end a route at any step off the sheet.
  *
+ * THE SHAPE OF CELLS. The calls that work out codes (directions, drain, culvert) take a cell's width, from west to east, and its
+ * height, from north to south, whole numbers from 1 to 1,000 each. A drop is divided by the width for east and west, by the height
+ * for north and south, and by the square root of the sum of their squares for corners. Only the ratio of the two counts: 30 by 60
+ * is 1 by 2, and square cells of any width are 1 by 1 (SquareCells, AnyUnit). Where the largest drops so divided are exactly equal,
+ * as 3 to the east, 4 to the north and 5 to the north-east are with cells of 3 by 4, a table decides. Fill and ponds do not depend on
+ * the shape (AnyShape), and take none; nor do the calls that see codes only.
+ *
  * Sheets. Rows and columns are each from 1 to 4,000. The cell in row r and column q, both from 0, has the number
  * r * cols + q, and stands at that place of each sheet. Elevations are signed 16-bit numbers, -32768 the void.
  *
@@ -32,8 +39,8 @@
  * the same call: that is the caller's part, and the only one. Any length and any content is allowed: what does not fit is
  * refused.
  *
- * A refusal (number above 0) leaves every result buffer as it was; a number up to 9, and 17, leaves the work buffer as it was
- * too. Otherwise the work buffer's contents are free afterwards; tervuola_counts says more of its own.
+ * A refusal (number above 0) leaves every result buffer as it was; a number up to 9, and 17 and 20, leaves the work
+ * buffer as it was too. Otherwise the work buffer's contents are free afterwards; tervuola_counts says more of its own.
  *
  * The calls allocate nothing, keep no state, are reentrant and thread-safe, and use at most 512 KiB of stack.
  */
@@ -44,7 +51,7 @@
 #include <stdint.h>
 
 #define TERVUOLA_VERSION_MAJOR 0
-#define TERVUOLA_VERSION_MINOR 7
+#define TERVUOLA_VERSION_MINOR 8
 #define TERVUOLA_VERSION_PATCH 0
 
 /* The void mark, and the eight direction codes. */
@@ -66,6 +73,9 @@
 
 /* The most rows, and the most columns, of a sheet. */
 #define TERVUOLA_MAX_SIDE 4000
+
+/* The largest width, and the largest height, of a cell. */
+#define TERVUOLA_MAX_CELL 1000
 
 /* The text formats: at most this many bytes, and this many cells. */
 #define TERVUOLA_TEXT_BYTES 11529
@@ -100,8 +110,9 @@ enum tervuola_number {
     TERVUOLA_BAD_LEVEL = 16,      /* the level is -32768, or above the cell's elevation; place: the cell */
     TERVUOLA_BAD_SIDES = 17,      /* the closed sides are a number above 15 */
     TERVUOLA_NO_OUTLET = 18,      /* a data cell has no chain of data cells to an outlet; place: the first such cell */
-    TERVUOLA_BAD_LIST = 19        /* a cell of a list lies outside the sheet, or is no neighbour of the one before it; place: the
+    TERVUOLA_BAD_LIST = 19,       /* a cell of a list lies outside the sheet, or is no neighbour of the one before it; place: the
                                      first such cell's position in its list, from 0 */
+    TERVUOLA_BAD_CELL_SHAPE = 20  /* a cell's width or height is not from 1 to 1,000 */
 };
 
 typedef struct {
@@ -166,6 +177,7 @@ static inline const char *tervuola_text(uint32_t number)
     case TERVUOLA_BAD_SIDES: return "the closed sides are not from 0 to 15";
     case TERVUOLA_NO_OUTLET: return "a data cell has no chain to an outlet: its water cannot leave";
     case TERVUOLA_BAD_LIST: return "a cell of a list lies outside the sheet or is no neighbour of the one before it";
+    case TERVUOLA_BAD_CELL_SHAPE: return "the width or height of a cell is not from 1 to 1000";
     default: return "unknown number";
     }
 }
@@ -201,11 +213,11 @@ tervuola_counted tervuola_ponds(uint32_t rows, uint32_t cols, uint32_t sides,
 
 /*
  * The flow direction of each cell of a sheet as it is handed in (it is not filled first): 0 at a void.
- * sides: those that are closed, 0 for none. elevations: rows * cols. codes: rows * cols, the result. work: at least
- * 4 * rows * cols.
- * Numbers: 5 6 17 7 8 9 18 10. Promise: DirectionsPromise.
+ * sides: those that are closed, 0 for none. width, height: a cell's, 1 and 1 for square ones. elevations: rows * cols. codes:
+ * rows * cols, the result. work: at least 4 * rows * cols.
+ * Numbers: 5 6 17 20 7 8 9 18 10. Promise: DirectionsPromise.
  */
-tervuola_answer tervuola_directions(uint32_t rows, uint32_t cols, uint32_t sides,
+tervuola_answer tervuola_directions(uint32_t rows, uint32_t cols, uint32_t sides, uint32_t width, uint32_t height,
                                     const int16_t *elevations, size_t elevations_len,
                                     uint8_t *codes, size_t codes_len,
                                     uint32_t *work, size_t work_len);
@@ -234,11 +246,11 @@ tervuola_answer tervuola_labels(uint32_t rows, uint32_t cols,
 
 /*
  * The four results in one call: the filled sheet, its directions, and the counts and labels of these.
- * sides: those that are closed, 0 for none. elevations: rows * cols. filled, codes, counts, labels: rows * cols each, the results.
- * work: at least 4 * rows * cols.
- * Numbers: 5 6 17 7 8 9 18. Promise: DrainPromise, with demand 3 (Guarantee.antt) for every accepted sheet.
+ * sides: those that are closed, 0 for none. width, height: a cell's, 1 and 1 for square ones. elevations: rows * cols. filled, codes,
+ * counts, labels: rows * cols each, the results. work: at least 4 * rows * cols.
+ * Numbers: 5 6 17 20 7 8 9 18. Promise: DrainPromise, with demand 3 (Guarantee.antt) for every accepted sheet.
  */
-tervuola_answer tervuola_drain(uint32_t rows, uint32_t cols, uint32_t sides,
+tervuola_answer tervuola_drain(uint32_t rows, uint32_t cols, uint32_t sides, uint32_t width, uint32_t height,
                                const int16_t *elevations, size_t elevations_len,
                                int16_t *filled, size_t filled_len,
                                uint8_t *codes, size_t codes_len,
@@ -249,10 +261,11 @@ tervuola_answer tervuola_drain(uint32_t rows, uint32_t cols, uint32_t sides,
 /*
  * A culvert under a road bank: the four results of the sheet with the cell at the level. The elevations themselves are not changed.
  * cell: the number of a data cell, an outlet too. level: at most its elevation, and not the void; equal to it, it changes nothing.
- * Sides and buffers as of tervuola_drain.
- * Numbers: 5 6 17 7 8 9 15 16 18. Promise: CulvertPromise, with demand 3 for every accepted culvert, the opened sheet being the input.
+ * Sides, shape and buffers as of tervuola_drain.
+ * Numbers: 5 6 17 20 7 8 9 15 16 18. Promise: CulvertPromise, with demand 3 for every accepted culvert, the opened sheet being the
+ * input.
  */
-tervuola_answer tervuola_culvert(uint32_t rows, uint32_t cols, uint32_t sides,
+tervuola_answer tervuola_culvert(uint32_t rows, uint32_t cols, uint32_t sides, uint32_t width, uint32_t height,
                                  const int16_t *elevations, size_t elevations_len,
                                  uint32_t cell, int16_t level,
                                  int16_t *filled, size_t filled_len,
@@ -343,7 +356,7 @@ tervuola_dimensions tervuola_read(const uint8_t *text, size_t text_len,
 
 /*
  * Writes an elevation sheet as a text frame: upper-case digits and nothing optional, so that two sheets have equal text exactly
- * when rows, columns and all elevations are equal. Closed sides are no part of the text. Reports the bytes written,
+ * when rows, columns and all elevations are equal. Closed sides and the shape of cells are no part of the text. Reports the bytes written,
  * 9 + rows * (4 * cols + 1); bytes past them are untouched, and no zero byte ends them. tervuola_read gives back the sheet from
  * just these bytes (text_len: the count reported); a text that was read, written again, has its letters raised to upper case.
  * elevations: rows * cols exactly, not all of a longer buffer that was read into. text: at least the bytes above, which a refusal

@@ -1,10 +1,10 @@
-// Every call of libtervuola.a against the second program as it is after request 6, on its sheets, on sheets of ponds, on sheets cut from
-// larger ones, under all closed sides, on random codes, on cells and levels that are and are not there, on walks, routes and lists of any numbers,
+// Every call of libtervuola.a against the second program as it is after request 7, on its sheets, on sheets of ponds, on sheets cut from
+// larger ones, under all closed sides, with cells of many shapes, on drops that tie by them, on random codes, on cells and levels that are and are not there, on walks, routes and lists of any numbers,
 // on damaged texts, and on wrong lengths. What is written is read again, and what is read is written again.
 //   compare ROUNDS [SEED]      sheets up to 5 by 5, each size under each number of closed sides; then ROUNDS of sheets up to 40 by 40
 //   compare big KIND SIDE      one large sheet, by the second program's fast layer
 // A result buffer is lent with guard elements on both sides, and holds a pattern before the call; a no must leave it, and the work buffer
-// up to question 9, which 17 comes before. The counts call must leave the first 2 * rows * cols places of the work buffer
+// up to question 9, which 17 and 20 come before. The counts call must leave the first 2 * rows * cols places of the work buffer
 // beside every answer.
 #include "../../include/tervuola.h"
 #include "../second/gen.hpp"
@@ -63,8 +63,8 @@ static void same_work(const char *call, u32 number, const Lent<u32> &work, u64 r
   checks++;
   if (!work.guarded())
     fail(call, "a place outside the work buffer", round);
-  if (((number >= 1 && number <= 9) || number == 17) && !work.untouched())
-    fail(call, "the work buffer beside a number up to 9 or 17", round);
+  if (((number >= 1 && number <= 9) || number == 17 || number == 20) && !work.untouched())
+    fail(call, "the work buffer beside a number up to 9, 17 or 20", round);
 }
 
 // what is lent, with now and then a wrong length or a wrong size
@@ -93,7 +93,23 @@ struct Lengths {
     static const u64 odd[] = {16, 17, 31, 255, 256, 65536, 2147483648u, 4294967295u};
     return odd[g.below(8)];
   }
+  u64 cell(u64 k) {
+    if (!wrong || !g.chance(15))
+      return k;
+    static const u64 odd[] = {0, 1001, 1002, 2000, 65536, 65537, 2147483648u, 4294967295u};
+    return odd[g.below(8)];
+  }
 };
+// Shapes of cells: squares, those that tie a side with a corner or two sides (3, 4 and 5; 5, 12 and 13), and the extremes.
+static const u64 SHAPES[][2] = {{1, 1},   {3, 4},   {4, 3},    {6, 8},    {12, 5}, {1, 2},   {2, 1},
+                                {7, 7},   {1, 1000}, {1000, 1}, {999, 1000}, {1000, 1000}, {9, 12}, {8, 15}};
+static const u64 SHAPE_COUNT = sizeof SHAPES / sizeof *SHAPES;
+static void some_shape(gen::Rng &g, Desc &d) {
+  u64 k = g.below(SHAPE_COUNT + 6);
+  d.width = k < SHAPE_COUNT ? SHAPES[k][0] : k % 2 ? 1 : 1 + g.below(1000);
+  d.height = k < SHAPE_COUNT ? SHAPES[k][1] : k % 2 ? 1 : 1 + g.below(1000);
+}
+static bool shaped(const Desc &d) { return d.width >= 1 && d.width <= 1000 && d.height >= 1 && d.height <= 1000; }
 template <class T> static V<T> resized(const V<T> &v, size_t n) {
   V<T> r(v);
   r.resize(n);
@@ -108,7 +124,7 @@ static std::map<std::string, std::map<u32, u64>> answers;
 // question, asked later, has the answer no as well.
 static std::map<std::string, std::set<u64>> accepted_sides;
 static std::map<std::string, std::map<std::pair<u32, u32>, u64>> before;
-static void outlets_answer(const char *call, u32 number, const Desc &d, const V<i16> &e, bool results, const Lent<u32> &work) {
+static void outlets_answer(const char *call, u32 number, const Desc &d, const V<i16> &e, bool results, const Lent<u32> &work, bool codes) {
   auto &met = before[call];
   if (number == 0)
     accepted_sides[call].insert(d.closed);
@@ -118,6 +134,14 @@ static void outlets_answer(const char *call, u32 number, const Desc &d, const V<
     met[{17, 7}] += e.size() != d.n();
     met[{17, 8}] += !results;
     met[{17, 9}] += work.n < 4 * d.n();
+    met[{17, 20}] += codes && !shaped(d);
+  }
+  if (codes && (number == 5 || number == 6) && !shaped(d))
+    met[{number, 20}]++;
+  if (number == 20) {
+    met[{20, 7}] += e.size() != d.n();
+    met[{20, 8}] += !results;
+    met[{20, 9}] += work.n < 4 * d.n();
   }
   if (number == 9 || number == 15 || number == 16)
     met[{number, 18}] += first_stranded(d, e) < d.n();
@@ -162,10 +186,59 @@ static void outlets_round(const char *name, outlets_call<Out> call, Said said, c
       name,
       [&](const V<i16> &e, Lent<Out> &out, Lent<u32> &work) {
         tervuola_answer a = call((u32)d.rows, (u32)d.cols, (u32)d.closed, e.data(), e.size(), out.at(), out.n, work.at(), work.n);
-        outlets_answer(name, a.number, d, e, out.n == d.n(), work);
+        outlets_answer(name, a.number, d, e, out.n == d.n(), work, false);
         return a;
       },
       said, d, e0, len, round);
+}
+// Cells with a largest drop at a side and a corner at once, those with it at a side each way at once, and sheets whose codes are not those
+// of square cells, among the accepted ones.
+static u64 side_corner_ties = 0, side_side_ties = 0, three_ties = 0, other_codes = 0;
+static void count_ties(const Desc &d, const V<i16> &e) {
+  for (u64 c = 0; c < d.n(); c++) {
+    if (e[c] == VOIDMARK)
+      continue;
+    i64 best = 0;
+    int at = -1, corners = 0, across = 0, along = 0;
+    for (int pass = 0; pass < 2; pass++)
+      for (int p = 0; p < 8; p++) {
+        i64 j = at_step(d.rows, d.cols, c, p);
+        if (j < 0 || e[(u64)j] == VOIDMARK)
+          continue;
+        i64 drop = (i64)e[c] - e[(u64)j];
+        if (drop <= 0)
+          continue;
+        int order = at < 0 ? 1 : cmp_drop(d, drop, p, best, at);
+        if (pass == 0 && order > 0) {
+          best = drop;
+          at = p;
+        }
+        if (pass == 1 && order == 0)
+          (p % 2 == 0 ? corners : p % 4 == 1 ? across : along) = 1;
+      }
+    side_corner_ties += corners && (across || along);
+    side_side_ties += across && along && !corners;
+    three_ties += corners && across && along;
+  }
+}
+static void directions_round(const Desc &d, const V<i16> &e0, Lengths len, u64 round) {
+  one_sheet_round<i16, u8>(
+      "directions",
+      [&](const V<i16> &e, Lent<u8> &out, Lent<u32> &work) {
+        tervuola_answer a = tervuola_directions((u32)d.rows, (u32)d.cols, (u32)d.closed, (u32)d.width, (u32)d.height, e.data(), e.size(), out.at(),
+                                                out.n, work.at(), work.n);
+        outlets_answer("directions", a.number, d, e, out.n == d.n(), work, true);
+        if (a.number == 0 && d.width != d.height) {
+          count_ties(d, e);
+          Desc square = d;
+          square.width = square.height = 1;
+          V<u8> codes;
+          directions(square, e, codes);
+          other_codes += codes != out.list();
+        }
+        return a;
+      },
+      call_directions, d, e0, len, round);
 }
 static Reply said_counts(const Desc &d, const V<u8> &c, V<u32> &out, u64 work) { return call_counts(d.rows, d.cols, c, out, work); }
 static Reply said_labels(const Desc &d, const V<u8> &c, V<u32> &out, u64 work) { return call_labels(d.rows, d.cols, c, out, work); }
@@ -257,7 +330,7 @@ static Filled four_round(const char *name, Call call, Said said, const Desc &d, 
   if (e != input)
     fail(name, "the sheet handed in", round);
   answers[name][a.number]++;
-  outlets_answer(name, a.number, d, e, f.n == d.n() && k.n == d.n() && n.n == d.n() && l.n == d.n(), work);
+  outlets_answer(name, a.number, d, e, f.n == d.n() && k.n == d.n() && n.n == d.n() && l.n == d.n(), work, true);
   return {a.number, f.list()};
 }
 // accepted sheets with a cell on the border that is no outlet and flows inward, and of these the ones where such a cell has water on it,
@@ -288,8 +361,8 @@ static void drain_round(const Desc &d, const V<i16> &e0, Lengths len, u64 round)
   Filled r = four_round(
       "drain",
       [&](Lent<i16> &f, Lent<u8> &k, Lent<u32> &n, Lent<u32> &l, Lent<u32> &work) {
-        return tervuola_drain((u32)d.rows, (u32)d.cols, (u32)d.closed, e.data(), e.size(), f.at(), f.n, k.at(), k.n, n.at(), n.n, l.at(), l.n,
-                              work.at(), work.n);
+        return tervuola_drain((u32)d.rows, (u32)d.cols, (u32)d.closed, (u32)d.width, (u32)d.height, e.data(), e.size(), f.at(), f.n, k.at(), k.n,
+                              n.at(), n.n, l.at(), l.n, work.at(), work.n);
       },
       [&](Four &want, u64 work) { return call_four(d, e, want, work); }, d, e, e0.size(), len, round);
   if (r.number == 0)
@@ -325,8 +398,8 @@ static void culvert_round(const Desc &d, const V<i16> &e0, gen::Rng &g, Lengths 
   Filled r = four_round(
       "culvert",
       [&](Lent<i16> &f, Lent<u8> &k, Lent<u32> &n, Lent<u32> &l, Lent<u32> &work) {
-        return tervuola_culvert((u32)d.rows, (u32)d.cols, (u32)d.closed, e.data(), e.size(), cell, level, f.at(), f.n, k.at(), k.n, n.at(), n.n,
-                                l.at(), l.n, work.at(), work.n);
+        return tervuola_culvert((u32)d.rows, (u32)d.cols, (u32)d.closed, (u32)d.width, (u32)d.height, e.data(), e.size(), cell, level, f.at(), f.n,
+                                k.at(), k.n, n.at(), n.n, l.at(), l.n, work.at(), work.n);
       },
       [&](Four &want, u64 work) { return call_culvert(d, e, V<u64>{cell}, V<i16>{level}, want, work); }, d, e, e0.size(), len, round);
   if (r.number == 0 && level < e[cell]) {
@@ -411,7 +484,7 @@ static void ponds_round(const Desc &d, const V<i16> &e0, bool exact, gen::Rng &g
   same_list("ponds", "the volumes", v, wv, round);
   same_work("ponds", x.number, work, round);
   answers["ponds"][x.number]++;
-  outlets_answer("ponds", x.number, d, e, p.n == d.n() && c.n == z.n && v.n == z.n, work);
+  outlets_answer("ponds", x.number, d, e, p.n == d.n() && c.n == z.n && v.n == z.n, work, false);
   if (x.number == 18)
     before["ponds"][{18, 14}] += z.n < count;
   most_ponds = std::max<u64>(most_ponds, x.count);
@@ -851,7 +924,7 @@ static bool every_outlets_answer(const char *call, const V<u32> &numbers, V<std:
 // the five calls that work out outlets, on one sheet
 static void outlets_rounds(const Desc &d, const V<i16> &e, gen::Rng &g, Lengths len, u64 round) {
   outlets_round("fill", tervuola_fill, call_fill, d, e, len, round);
-  outlets_round("directions", tervuola_directions, call_directions, d, e, len, round);
+  directions_round(d, e, len, round);
   drain_round(d, e, len, round);
   ponds_round(d, e, false, g, len, round);
   culvert_round(d, e, g, len, round);
@@ -877,9 +950,40 @@ static void small_sheets(u64 seed) {
     d.rows = len.side(d.rows);
     d.cols = len.side(d.cols);
     d.closed = len.closed(d.closed);
+    d.width = len.cell(SHAPES[i % SHAPE_COUNT][0]);
+    d.height = len.cell(SHAPES[i % SHAPE_COUNT][1]);
     outlets_rounds(d, e, g, len, i);
-    outlets_round("directions", tervuola_directions, call_directions, d, filled, len, i);
+    directions_round(d, filled, len, i);
   }
+  part = "round";
+}
+
+// The middle cell of 3 by 3, with drops of all sizes of a list to a side across, to one along and to the corner between them, in each of the
+// four quarters, at the top of the range; and with every shape. The lists have drops that tie, one less and one more, and the largest.
+static void tied_drops() {
+  static const V<i64> near{0, 2, 3, 4, 5, 6, 8, 10}, far{0, 1, 2, 999, 1000, 1001, 32767, 65534};
+  ENGINE = LITERAL;
+  part = "drops";
+  u64 i = 0;
+  for (auto &shape : SHAPES)
+    for (auto &list : {near, far})
+      for (int quarter = 0; quarter < 4; quarter++)
+        for (i64 a : list)
+          for (i64 b : list)
+            for (i64 c : list) {
+              gen::Rng g(++i);
+              Lengths len{g, false};
+              Desc d;
+              d.rows = d.cols = 3;
+              d.width = shape[0];
+              d.height = shape[1];
+              V<i16> e(9, 32767);
+              int column = quarter % 2 ? 2 : 0, row = quarter / 2 ? 2 : 0;
+              e[(size_t)(3 + column)] = (i16)(32767 - a);
+              e[(size_t)(3 * row + 1)] = (i16)(32767 - b);
+              e[(size_t)(3 * row + column)] = (i16)(32767 - c);
+              directions_round(d, e, len, i);
+            }
   part = "round";
 }
 
@@ -887,6 +991,7 @@ static int rounds(u64 count, u64 seed) {
   auto &kinds = gen::kinds();
   auto &bad = gen::badkinds();
   small_sheets(seed);
+  tied_drops();
   write_sizes(seed);
   small_lists();
   list_sizes();
@@ -898,6 +1003,7 @@ static int rounds(u64 count, u64 seed) {
     d.rows = s.rows;
     d.cols = s.cols;
     d.closed = g.chance(25) ? 0 : g.chance(10) ? 15 : g.below(16);
+    some_shape(g, d);
     ENGINE = d.n() <= 100 ? LITERAL : FAST;
     Lengths len{g, g.chance(20)};
     V<i16> filled = oracle::fill(d, s.e);
@@ -905,8 +1011,10 @@ static int rounds(u64 count, u64 seed) {
     d.rows = len.side(d.rows);
     d.cols = len.side(d.cols);
     d.closed = len.closed(d.closed);
+    d.width = len.cell(d.width);
+    d.height = len.cell(d.height);
     outlets_rounds(d, s.e, g, len, i);
-    outlets_round("directions", tervuola_directions, call_directions, d, filled, len, i);
+    directions_round(d, filled, len, i);
     code_rounds(d, codes, len, i);
     watersheds_round(d, codes, g, len, i);
     starts_round(d, codes, g, len, i);
@@ -939,15 +1047,22 @@ static int rounds(u64 count, u64 seed) {
   printf("compare: shared endings: %llu the whole first list, %llu a part of it, %llu empty; whole routes: %llu meet, %llu never do; %llu times both lists bad\n",
          (unsigned long long)shared_whole, (unsigned long long)shared_part, (unsigned long long)shared_none, (unsigned long long)routes_met,
          (unsigned long long)routes_apart, (unsigned long long)both_bad);
+  printf("compare: largest drops that tie: %llu at a side and a corner, %llu at sides both ways, %llu at all three; %llu sheets of oblong cells with other codes "
+         "than square ones have\n",
+         (unsigned long long)side_corner_ties, (unsigned long long)side_side_ties, (unsigned long long)three_ties, (unsigned long long)other_codes);
   bool all = every_answer("counts", {0, 5, 6, 7, 8, 9, 11, 12});
   all = every_answer("labels", {0, 5, 6, 7, 8, 9, 11, 12}) && all;
   all = every_outlets_answer("fill", {0, 5, 6, 17, 7, 8, 9, 18}, {}) && all;
-  all = every_outlets_answer("directions", {0, 5, 6, 17, 7, 8, 9, 18, 10}, {}) && all;
-  all = every_outlets_answer("drain", {0, 5, 6, 17, 7, 8, 9, 18}, {}) && all;
+  const V<std::pair<u32, u32>> shape{{5, 20}, {6, 20}, {17, 20}, {20, 7}, {20, 8}, {20, 9}};
+  V<std::pair<u32, u32>> culvert(shape);
+  culvert.insert(culvert.end(), {{15, 18}, {16, 18}});
+  all = every_outlets_answer("directions", {0, 5, 6, 17, 20, 7, 8, 9, 18, 10}, shape) && all;
+  all = every_outlets_answer("drain", {0, 5, 6, 17, 20, 7, 8, 9, 18}, shape) && all;
   all = every_outlets_answer("ponds", {0, 5, 6, 17, 7, 8, 9, 18, 14}, {{18, 14}}) && all;
-  all = every_outlets_answer("culvert", {0, 5, 6, 17, 7, 8, 9, 15, 16, 18}, {{15, 18}, {16, 18}}) && all;
+  all = every_outlets_answer("culvert", {0, 5, 6, 17, 20, 7, 8, 9, 15, 16, 18}, culvert) && all;
   all = every_answer("write", {0, 4, 5, 6, 7, 8}) && every_order("write", {{4, 5}, {4, 6}, {4, 7}, {4, 8}, {5, 6}, {5, 7}, {5, 8}, {6, 7}, {6, 8}, {7, 8}}) && all;
   all = every_answer("check_lists", {0, 5, 6, 19}) && every_order("check_lists", {{5, 6}, {5, 19}, {6, 19}}) && all;
+  all = all && side_corner_ties && side_side_ties && three_ties && other_codes;
   all = all && shared_whole && shared_part && shared_none && routes_met && routes_apart && both_bad;
   return checks && all && opened_border && opened_banks && inward_wet && inward_flat && raised_texts && exact_rooms && short_rooms ? 0 : 1;
 }
@@ -964,7 +1079,7 @@ static int big(const char *kind, u64 side) {
   V<u8> codes;
   directions(d, filled, codes);
   outlets_round("fill", tervuola_fill, call_fill, d, s.e, len, 0);
-  outlets_round("directions", tervuola_directions, call_directions, d, filled, len, 0);
+  directions_round(d, filled, len, 0);
   code_rounds(d, codes, len, 0);
   watersheds_round(d, codes, g, len, 0);
   starts_round(d, codes, g, len, 0);
@@ -975,6 +1090,9 @@ static int big(const char *kind, u64 side) {
   ponds_round(d, banks, true, g, len, 0);
   for (int k = 0; k < 3; k++)
     culvert_round(d, k ? banks : s.e, g, len, 0);
+  d.width = 4;
+  d.height = 3;
+  directions_round(d, filled, len, 0);
   d.closed = WEST + EAST + NORTH;
   outlets_rounds(d, s.e, g, len, 0);
   d.closed += SOUTH;
@@ -988,7 +1106,7 @@ static int big(const char *kind, u64 side) {
 }
 
 int main(int argc, char **argv) {
-  LEVEL = 6;
+  LEVEL = 7;
   if (argc == 4 && !strcmp(argv[1], "big"))
     return big(argv[2], strtoull(argv[3], 0, 10));
   if (argc < 2) {

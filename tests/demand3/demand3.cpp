@@ -1,6 +1,6 @@
 // Demand 3 by brute force on tiny sheets, as a test of the statement: every chain without repeats, every rival sheet from the input up to 2.
 // It looks only at the four results of tervuola_drain and tervuola_culvert and at the sentences of documents 01 and 02, with the elevations
-// handed in as the input, and with the opened sheet, under every number of closed sides. A sheet is refused just where some data cell has no
+// handed in as the input, and with the opened sheet, under every number of closed sides and with cells of several shapes. A sheet is refused just where some data cell has no
 // chain to an outlet.
 #include "../../include/tervuola.h"
 #include <cstdio>
@@ -91,6 +91,30 @@ static bool drains(const vector<int16_t> &f) {
   return true;
 }
 
+// the width and height of a cell, and the square of the distance to the neighbour at a position
+static const uint32_t shapes[][2] = {{1, 1}, {1, 2}, {2, 1}, {5, 5}, {1, 1000}, {1000, 1}, {3, 4}};
+static uint32_t width = 1, height = 1;
+static void next_shape() {
+  static size_t k = 0;
+  k = (k + 1) % (sizeof shapes / sizeof *shapes);
+  width = shapes[k][0], height = shapes[k][1];
+}
+static unsigned long long squared(int p) {
+  unsigned long long w = (unsigned long long)width * width, h = (unsigned long long)height * height;
+  return p % 2 == 0 ? w + h : p % 4 == 1 ? w : h;
+}
+// where the filled sheet f falls from c to a neighbour, the code's neighbour has a largest drop by distance
+static void steepest(const vector<int16_t> &f, int c, int p) {
+  int to = at_step(c, p);
+  for (int q = 0; q < 8; q++) {
+    int k = at_step(c, q);
+    if (k < 0 || !data(k) || f[(size_t)k] >= f[(size_t)c])
+      continue;
+    unsigned long long drop = (unsigned long long)(f[(size_t)c] - f[(size_t)k]), ours = to < 0 ? 0 : (unsigned long long)(f[(size_t)c] - f[(size_t)to]);
+    hold(to >= 0 && data(to) && f[(size_t)to] < f[(size_t)c] && drop * drop * squared(p) <= ours * ours * squared(q), "the largest drop");
+  }
+}
+
 // the four results of a call for the input e
 struct Four {
   vector<int16_t> filled;
@@ -123,6 +147,8 @@ static void judge(const Four &four) {
       while (p < 8 && codes[(size_t)x] != 1 << p)
         p++;
       hold(p < 8, "a code");
+      if (x == c && !outlet(c))
+        steepest(filled, c, p);
       int k = at_step(x, p);
       if (k < 0 || codes[(size_t)k] == 0)
         break;
@@ -178,19 +204,23 @@ static bool accepted(tervuola_answer a) {
   refused++;
   return false;
 }
-static bool drained(Four &r) {
+static bool drained(Four &r, uint32_t w, uint32_t h) {
   size_t n = e.size();
-  return accepted(tervuola_drain((uint32_t)rows, (uint32_t)cols, sides, e.data(), n, r.filled.data(), n, r.codes.data(), n, r.counts.data(), n,
+  return accepted(tervuola_drain((uint32_t)rows, (uint32_t)cols, sides, w, h, e.data(), n, r.filled.data(), n, r.codes.data(), n, r.counts.data(), n,
                                  r.labels.data(), n, r.work.data(), 4 * n));
 }
-// sheets in all, and accepted ones with water against a closed side
-static unsigned long sheets = 0, closed_lakes = 0;
+// sheets in all, accepted ones with water against a closed side, and those whose codes are not the ones that square cells give
+static unsigned long sheets = 0, closed_lakes = 0, other_codes = 0;
 static void plain_sheet() {
-  Four r(e.size());
+  Four r(e.size()), square(e.size());
+  next_shape();
   sheets++;
-  if (!drained(r))
+  if (!drained(r, width, height))
     return;
   judge(r);
+  hold(drained(square, 1, 1) && square.filled == r.filled, "the same filled sheet with square cells");
+  hold(width != height || square.codes == r.codes, "the same codes with square cells of any width");
+  other_codes += square.codes != r.codes;
   bool lake = false;
   for (int c = 0; c < (int)e.size(); c++) {
     bool border = c < cols || c >= (rows - 1) * cols || c % cols == 0 || c % cols == cols - 1;
@@ -206,10 +236,11 @@ static void opened_sheet(size_t cell, int16_t level) {
   size_t n = e.size();
   Four plain(n), r(n);
   vector<int16_t> given(e), kept(e);
-  bool was = drained(plain);
+  next_shape();
+  bool was = drained(plain, width, height);
   e[cell] = level;
-  bool is = accepted(tervuola_culvert((uint32_t)rows, (uint32_t)cols, sides, given.data(), n, (uint32_t)cell, level, r.filled.data(), n,
-                                      r.codes.data(), n, r.counts.data(), n, r.labels.data(), n, r.work.data(), 4 * n));
+  bool is = accepted(tervuola_culvert((uint32_t)rows, (uint32_t)cols, sides, width, height, given.data(), n, (uint32_t)cell, level, r.filled.data(),
+                                      n, r.codes.data(), n, r.counts.data(), n, r.labels.data(), n, r.work.data(), 4 * n));
   hold(given == kept, "the sheet handed in");
   hold(is == was, "the same answer with the culvert");
   opened++;
@@ -274,6 +305,7 @@ int main() {
   }
   printf("demand 3: %lu facts on %lu tiny sheets under all closed sides, and on %lu opened ones, %lu of them through an inner bank, %lu at an outlet\n",
          facts, sheets, opened, inner_banks, outlet_banks);
+  printf("demand 3: %lu sheets of oblong cells with other codes than square ones have\n", other_codes);
   printf("demand 3: %lu sheets with water on a border cell that is no outlet; %lu times no chain to an outlet, and 18\n", closed_lakes, refused);
-  return inner_banks && outlet_banks && closed_lakes && refused ? 0 : 1;
+  return inner_banks && outlet_banks && closed_lakes && refused && other_codes ? 0 : 1;
 }

@@ -18,11 +18,11 @@ extern "C" {
 tervuola_answer tervuola_fill(uint32_t, uint32_t, uint32_t, const int16_t *, size_t, int16_t *, size_t, uint32_t *, size_t);
 tervuola_counted tervuola_ponds(uint32_t, uint32_t, uint32_t, const int16_t *, size_t, uint32_t *, size_t, int16_t *, size_t, uint32_t *, size_t,
                                 uint64_t *, size_t, uint32_t *, size_t);
-tervuola_answer tervuola_directions(uint32_t, uint32_t, uint32_t, const int16_t *, size_t, uint8_t *, size_t, uint32_t *, size_t);
-tervuola_answer tervuola_drain(uint32_t, uint32_t, uint32_t, const int16_t *, size_t, int16_t *, size_t, uint8_t *, size_t, uint32_t *, size_t,
-                               uint32_t *, size_t, uint32_t *, size_t);
-tervuola_answer tervuola_culvert(uint32_t, uint32_t, uint32_t, const int16_t *, size_t, uint32_t, int16_t, int16_t *, size_t, uint8_t *, size_t,
-                                 uint32_t *, size_t, uint32_t *, size_t, uint32_t *, size_t);
+tervuola_answer tervuola_directions(uint32_t, uint32_t, uint32_t, uint32_t, uint32_t, const int16_t *, size_t, uint8_t *, size_t, uint32_t *, size_t);
+tervuola_answer tervuola_drain(uint32_t, uint32_t, uint32_t, uint32_t, uint32_t, const int16_t *, size_t, int16_t *, size_t, uint8_t *, size_t,
+                               uint32_t *, size_t, uint32_t *, size_t, uint32_t *, size_t);
+tervuola_answer tervuola_culvert(uint32_t, uint32_t, uint32_t, uint32_t, uint32_t, const int16_t *, size_t, uint32_t, int16_t, int16_t *, size_t,
+                                 uint8_t *, size_t, uint32_t *, size_t, uint32_t *, size_t, uint32_t *, size_t);
 tervuola_counted tervuola_write(uint32_t, uint32_t, const int16_t *, size_t, uint8_t *, size_t);
 tervuola_located tervuola_check_lists(uint32_t, uint32_t, const uint32_t *, size_t, const uint32_t *, size_t);
 tervuola_part tervuola_shared_ending(uint32_t, uint32_t, const uint32_t *, size_t, const uint32_t *, size_t);
@@ -54,18 +54,18 @@ int main(void)
     EXPECT(sizeof(tervuola_answer) == 8 && sizeof(tervuola_counted) == 12 && sizeof(tervuola_dimensions) == 16);
     /* the types of the buffers; nothing is called under sizeof */
     EXPECT(sizeof tervuola_ponds(3, 3, 0, elevations, 9, numbers, 9, level, 2, cells, 2, volume, 2, work, 36) == sizeof(tervuola_counted));
-    EXPECT(sizeof tervuola_culvert(3, 3, 0, elevations, 9, numbers[0], level[0], filled, 9, codes, 9, numbers, 9, numbers, 9, work, 36)
+    EXPECT(sizeof tervuola_culvert(3, 3, 0, 1, 1, elevations, 9, numbers[0], level[0], filled, 9, codes, 9, numbers, 9, numbers, 9, work, 36)
            == sizeof(tervuola_answer));
     EXPECT(strcmp(tervuola_text(0), "accepted") == 0);
-    for (k = 1; k <= 19; k++) {
+    for (k = 1; k <= 20; k++) {
         EXPECT(strcmp(tervuola_text(k), "unknown number") != 0);
         EXPECT(strcmp(tervuola_text(k), tervuola_text(k - 1)) != 0);
     }
     EXPECT(strstr(tervuola_text(14), "pairs") && strstr(tervuola_text(14), "ponds"));
     EXPECT(TERVUOLA_BAD_CELL == 15 && TERVUOLA_BAD_LEVEL == 16 && TERVUOLA_BAD_SIDES == 17 && TERVUOLA_NO_OUTLET == 18);
-    EXPECT(TERVUOLA_BAD_LIST == 19);
+    EXPECT(TERVUOLA_BAD_LIST == 19 && TERVUOLA_BAD_CELL_SHAPE == 20 && TERVUOLA_MAX_CELL == 1000);
     EXPECT(TERVUOLA_CLOSED_WEST == 1 && TERVUOLA_CLOSED_EAST == 2 && TERVUOLA_CLOSED_NORTH == 4 && TERVUOLA_CLOSED_SOUTH == 8);
-    EXPECT(strcmp(tervuola_text(20), "unknown number") == 0);
+    EXPECT(strcmp(tervuola_text(21), "unknown number") == 0);
     /* a place in a list and a part of one are of the machine's size; the part's pointer, of an empty list too */
     EXPECT(sizeof(tervuola_located) == 2 * sizeof(size_t) && sizeof(tervuola_part) == 2 * sizeof(size_t));
     EXPECT(sizeof located.place == sizeof(size_t) && offsetof(tervuola_located, place) == sizeof(size_t));

@@ -10,8 +10,11 @@ use borrow.Author.Tests.{le-leb, leb-true, eqb-true}
 use Rattle.grid.specs.declared.Grid.{Grid}
 use Rattle.grid.specs.declared.Answer.{Answer}
 use Rattle.grid.specs.Sheet.{size}
-use Rattle.grid.specs.Checks.{refusal, ask, inRange, askSize, allHave, askLengths, askSides, askSheets, askOutlets, askWork}
+use Rattle.grid.specs.Checks.{refusal, ask, inRange, inShape, askSize, allHave, askLengths, askSides, askShape, askSheets, askOutlets}
+use Rattle.grid.specs.Checks.{askFlow, askWork}
 use Rattle.grid_laws.proofs.Tests.{cond-true, and-true, and-left, and-right, not-is-true, not-is-false}
+use Rattle.shape_laws.specs.Shaped.{Shaped}
+use Rattle.shape_laws.proofs.Shapes.{shaped-of}
 use Rattle.checks.specs.Sizes.{Fits}
 use Rattle.checks.proofs.Gate.{Gate, one, both, weaken}
 
@@ -107,6 +110,15 @@ outlets-gate g inputs results =
     weaken (λ f. record { fits = f .0; inputs-have = f .1 .1 .0; results-have = f .1 .1 .1 })
     (both (size-gate g) (both (sides-gate g) (lengths-gate g inputs results)))
 
+-- 5, 6 and 17
+pub sized-gate : (g : Grid) → Gate (λ later. askSize g (askSides g later)) (Fits g)
+sized-gate g = weaken (λ f. f .0) (both (size-gate g) (sides-gate g))
+
+-- 20
+pub shape-gate : (g : Grid) → Gate (askShape g) (Shaped g)
+unfolding askShape
+shape-gate g = weaken (shaped-of g) (one (inShape (g .width) && inShape (g .height)) 20 0 (omega arith))
+
 -- 8 is asked after 5 to 7, which are 5 to 8 without results
 pub results-asked : (g : Grid) (inputs results : List ℕ) (later : Answer) →
     askSheets g inputs [] (ask (allHave (size g) results) (refusal 8 0) later) ≡ askSheets g inputs results later
@@ -120,9 +132,16 @@ unfolding askSheets askLengths allHave
 inputs-asked g inputs later = refl
 
 pub sides-asked : (g : Grid) (inputs results : List ℕ) (later : Answer) →
-    askSize g (ask (leb (g .sides) 15) (refusal 17 0) (askLengths g inputs results later)) ≡ askOutlets g inputs results later
-unfolding askOutlets askSides
+    askSize g (askSides g (askLengths g inputs results later)) ≡ askOutlets g inputs results later
+unfolding askOutlets
 sides-asked g inputs results later = refl
+
+-- and 20 after 17
+pub shape-asked : (g : Grid) (inputs results : List ℕ) (later : Answer) →
+    askSize g (askSides g (ask (inShape (g .width) && inShape (g .height)) (refusal 20 0) (askLengths g inputs results later)))
+    ≡ askFlow g inputs results later
+unfolding askFlow askShape
+shape-asked g inputs results later = refl
 
 pub lengths-asked : (g : Grid) (inputs results : List ℕ) (later : Answer) →
     askSheets g inputs results later ≡ askSize g (askLengths g inputs results later)
@@ -151,6 +170,22 @@ pub outlets-check-gate : (g : Grid) (inputs results : List ℕ) (work : ℕ) →
 outlets-check-gate g inputs results work =
     weaken (λ f. record { fits = f .0 .fits; inputs-have = f .0 .inputs-have; results-have = f .0 .results-have; room = f .1 })
     (both (outlets-gate g inputs results) (work-gate g work))
+
+-- the same with 17 and 20
+pub record FlowSized (g : Grid) (inputs results : List ℕ) (work : ℕ) : Type 0 where
+  pub fits : Fits g
+  pub shaped : Shaped g
+  pub inputs-have : AllAre (size g) inputs
+  pub results-have : AllAre (size g) results
+  pub room : 4 * size g ≤ work
+
+pub flow-check-gate : (g : Grid) (inputs results : List ℕ) (work : ℕ) →
+    Gate (λ later. askFlow g inputs results (askWork g work later)) (FlowSized g inputs results work)
+unfolding askFlow
+flow-check-gate g inputs results work =
+    weaken
+    (λ f. record { fits = f .0; shaped = f .1 .0; inputs-have = f .1 .1 .0 .0; results-have = f .1 .1 .0 .1; room = f .1 .1 .1 })
+    (both (sized-gate g) (both (shape-gate g) (both (lengths-gate g inputs results) (work-gate g work))))
 
 -- ---- the lengths of lists
 
@@ -207,4 +242,12 @@ pub one-outlet-result : (g : Grid) (a r : ℕ) (later : Answer) →
 unfolding askOutlets
 one-outlet-result g a r later =
     ap (λ (x : Answer). askSize g (askSides g x))
+    (same-lengths g (a ∷ []) (a ∷ []) (r ∷ r ∷ r ∷ r ∷ []) (r ∷ []) later refl (results-again (size g) r))
+
+-- what `check_flow` answers for one result sheet
+pub one-flow-result : (g : Grid) (a r : ℕ) (later : Answer) →
+    askFlow g (a ∷ []) (r ∷ r ∷ r ∷ r ∷ []) later ≡ askFlow g (a ∷ []) (r ∷ []) later
+unfolding askFlow
+one-flow-result g a r later =
+    ap (λ (x : Answer). askSize g (askSides g (askShape g x)))
     (same-lengths g (a ∷ []) (a ∷ []) (r ∷ r ∷ r ∷ r ∷ []) (r ∷ []) later refl (results-again (size g) r))

@@ -89,7 +89,7 @@ module _ (g : Grid) (codes k₀ w₀ : List ℕ) (r : Answer)
           record {
             answer = ap (refusal 12) is ∙ sym (codes-endless g codes accepted good (omega arith)) ∙ check-is;
             result = stands ∙ cond-false made k₀ (ne-eqb first (size g) (λ q. let z : ⊥ = omega arith in absurd z));
-            work = record { same-length = same; untouched = λ t. absurd (number-late (omega arith) (λ q. omega arith) t) };
+            work = record { same-length = same; untouched = λ t. absurd (number-late 12 tt t) };
           }
 
       pub made-promise : length codes ≤ first → FromCodes g codes made k₀ k₁ w₀ w₁ r

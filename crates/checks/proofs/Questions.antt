@@ -1,7 +1,6 @@
 -- "11. Is each code 0 or one of the eight?" "12. Does every route end?", and 18: the answer by the first cell for which it is no.
 use mathlib.Core.Path.{_≡_, refl, _∙_}
-use mathlib.Core.Bool.{Bool, true, false, _||_}
-use mathlib.Core.Logic.{⊎-elim}
+use mathlib.Core.Bool.{Bool, true, false, not, _||_}
 use mathlib.Core.List.{List}
 use Prim.Native.Nat.{ℕ, _≤_, _<_}
 use native.Mathlib.Omega.{arith}
@@ -15,7 +14,7 @@ use Rattle.grid.specs.Outlet.{firstStranded}
 use Rattle.grid.specs.Routes.{firstBadCode, firstEndless}
 use Rattle.grid.specs.Checks.{refusal, accepted, ask, askCell, askReach, askCodes}
 use Rattle.grid.specs.Promises.{upToNine}
-use Rattle.grid_laws.proofs.Tests.{T-true, cond-true, cond-false, and-left, and-right, or-cases}
+use Rattle.grid_laws.proofs.Tests.{T-true, true-false, not-is-true, cond-true, cond-false, and-left, and-right}
 use Rattle.grid_laws.proofs.Below.{first-≤}
 use Rattle.checks.proofs.Gate.{Gate, one, both, weaken}
 
@@ -57,41 +56,43 @@ module _ (g : Grid) (codes : List ℕ) (later : Answer) where
   codes-yes e q =
       cell-yes 11 (firstBadCode g codes) g (askCell 12 g (firstEndless g codes) later) e ∙ cell-yes 12 (firstEndless g codes) g later q
 
--- ---- these are asked when the work buffer may be written: a no is above 9, and not 17
+-- ---- these are asked when the work buffer may be written: a no is above 9, and neither 17 nor 20
 
 abbrev pub Late : Answer → Type 0
 Late a = T (upToNine (a .number)) → ⊥
 
--- a yes, and a number above 9 but 17
+-- a yes
 pub yes-is-late : {number : ℕ} → number ≡ 0 → T (upToNine number) → ⊥
 unfolding upToNine
 yes-is-late {number} e t =
-    let l = leb-true 1 number (and-left (leb 1 number) (leb number 9 || eqb number 17) (T-true (upToNine number) t)) in
+    let l = leb-true 1 number (and-left (leb 1 number) (leb number 9 || eqb number 17 || eqb number 20) (T-true (upToNine number) t)) in
     omega arith
 
-pub number-late : {number : ℕ} → 9 < number → (number ≡ 17 → ⊥) → T (upToNine number) → ⊥
+-- and any of these numbers, which a number that is written out shows by itself
+abbrev pub isLate : ℕ → Bool
+isLate number = not (leb number 9 || eqb number 17 || eqb number 20)
+
+pub number-late : (number : ℕ) → T (isLate number) → T (upToNine number) → ⊥
 unfolding upToNine
-number-late {number} h f t =
-    ⊎-elim (λ q. let l = leb-true number 9 q in let z : ⊥ = omega arith in z) (λ q. f (eqb-true number 17 q))
-    (or-cases (leb number 9) (eqb number 17)
-    (and-right (leb 1 number) (leb number 9 || eqb number 17) (T-true (upToNine number) t)))
+number-late number h t =
+    true-false (and-right (leb 1 number) (leb number 9 || eqb number 17 || eqb number 20) (T-true (upToNine number) t))
+    (not-is-true (leb number 9 || eqb number 17 || eqb number 20) (T-true (isLate number) h))
 
 pub yes-late : Late accepted
 yes-late = yes-is-late refl
 
-pub cell-late : (number first : ℕ) (g : Grid) (later : Answer) → 9 < number → (number ≡ 17 → ⊥) → Late later →
-    Late (askCell number g first later)
-cell-late number first g later n f L = go (eqb first (size g))
+pub cell-late : (number first : ℕ) (g : Grid) (later : Answer) → T (isLate number) → Late later → Late (askCell number g first later)
+cell-late number first g later n L = go (eqb first (size g))
   where
     go : (holds : Bool) → Late (ask holds (refusal number first) later)
     go true = L
-    go false = number-late n f
+    go false = number-late number n
 
 pub codes-late : (g : Grid) (codes : List ℕ) (later : Answer) → Late later → Late (askCodes g codes later)
 unfolding askCodes
 codes-late g codes later L =
-    cell-late 11 (firstBadCode g codes) g (askCell 12 g (firstEndless g codes) later) (omega arith) (λ q. omega arith)
-    (cell-late 12 (firstEndless g codes) g later (omega arith) (λ q. omega arith) L)
+    cell-late 11 (firstBadCode g codes) g (askCell 12 g (firstEndless g codes) later) tt
+    (cell-late 12 (firstEndless g codes) g later tt L)
 
 -- "18 if some data cell has no chain to an outlet"
 pub stranded-≤ : (g : Grid) (e : List ℤ) → firstStranded g e ≤ size g
@@ -113,7 +114,7 @@ module _ (g : Grid) (e : List ℤ) (later : Answer) where
 
   pub reach-late : Late later → Late (askReach g e later)
   unfolding askReach
-  reach-late L = cell-late 18 (firstStranded g e) g later (omega arith) (λ q. omega arith) L
+  reach-late L = cell-late 18 (firstStranded g e) g later tt L
 
   -- a no that is asked later makes one of it
   pub reach-above : (later .number ≡ 0 → ⊥) → (askReach g e later) .number ≡ 0 → ⊥

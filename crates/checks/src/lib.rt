@@ -1,14 +1,16 @@
 // The questions that every call with sheets asks first, 5 to 9 of "Questions at the gate", answered on the lengths of its lists by a few
-// functions, each one question longer than the one before; and the same with 17 after 6, for calls that work out outlets.
+// functions, each one question longer than the one before; and the same with 17 after 6, for calls that work out outlets, and with 17 and
+// 20, for calls that work out codes.
 // `proofs/Gate.antt` carries an answer to each call's own definition in `grid`: what is asked after it, and what a yes says.
 use grid::Answer;
 use grid::Grid;
 ghost use mathlib.Core.Path.{_≡_};
+ghost use mathlib.Core.Bool.{_&&_};
 ghost use mathlib.Core.List.{[], _∷_};
 ghost use Prim.Native.Nat.{_*_, _<_, _^_};
 ghost use lib.Dec.{leb};
 ghost use Rattle.grid.specs.Sheet.{size};
-ghost use Rattle.grid.specs.Checks.{accepted, inRange, allHave, askSize, askSheets, askOutlets, askWork};
+ghost use Rattle.grid.specs.Checks.{accepted, inRange, inShape, allHave, askSize, askSides, askSheets, askOutlets, askFlow, askWork};
 
 // "from 1 to 4,000", in questions 5 and 6, which the reader asks too.
 pub fn in_range(k: usize) -> bool
@@ -18,6 +20,26 @@ pub fn in_range(k: usize) -> bool
         return false;
     }
     k <= 4000
+}
+
+// "each from 1 to 1,000", in question 20.
+fn in_shape(k: usize) -> bool
+    ensures { λ r. ⌜ r ≡ inShape k ⌝ }
+{
+    if k < 1 {
+        return false;
+    }
+    k <= 1000
+}
+
+// Whether the cells have a width and a height in range.
+fn is_shaped(g: Grid) -> bool
+    ensures { λ r. ⌜ r ≡ (inShape (g .width) && inShape (g .height)) ⌝ }
+{
+    if !in_shape(g.width) {
+        return false;
+    }
+    in_shape(g.height)
 }
 
 // Whether both have `n` elements.
@@ -141,10 +163,9 @@ pub fn check(
     answer
 }
 
-// 5, 6, 17, 7 and 8, for elevations and four result sheets, of calls that work out outlets. A call with fewer names one of them again.
-// `sheets` asks 5 and 6 once more, and gets a yes.
-pub fn outlets(g: Grid, given: usize, a: usize, b: usize, c: usize, d: usize) -> Answer
-    ensures { λ r. ⌜ r ≡ askOutlets g (given ∷ []) (a ∷ b ∷ c ∷ d ∷ []) accepted ⌝ }
+// 5, 6 and 17, of calls that work out outlets.
+fn rows_cols_and_sides(g: Grid) -> Answer
+    ensures { λ r. ⌜ r ≡ askSize g (askSides g accepted) ⌝ }
 {
     let answer = rows_and_cols(g);
     if answer.number != 0 {
@@ -155,6 +176,18 @@ pub fn outlets(g: Grid, given: usize, a: usize, b: usize, c: usize, d: usize) ->
             number: 17,
             place: 0,
         };
+    }
+    answer
+}
+
+// 5, 6, 17, 7 and 8, for elevations and four result sheets, of calls that work out outlets. A call with fewer names one of them again.
+// `sheets` asks 5 and 6 once more, and gets a yes.
+pub fn outlets(g: Grid, given: usize, a: usize, b: usize, c: usize, d: usize) -> Answer
+    ensures { λ r. ⌜ r ≡ askOutlets g (given ∷ []) (a ∷ b ∷ c ∷ d ∷ []) accepted ⌝ }
+{
+    let answer = rows_cols_and_sides(g);
+    if answer.number != 0 {
+        return answer;
     }
     sheets(g, given, given, a, b, c, d)
 }
@@ -182,4 +215,29 @@ pub fn check_outlets(
         };
     }
     answer
+}
+
+// 5, 6, 17, 20 and 7 to 9, of calls that work out codes. `check` asks 5 and 6 once more, and gets a yes.
+pub fn check_flow(
+    g: Grid,
+    given: usize,
+    a: usize,
+    b: usize,
+    c: usize,
+    d: usize,
+    work: usize,
+) -> Answer
+    ensures { λ r. ⌜ r ≡ askFlow g (given ∷ []) (a ∷ b ∷ c ∷ d ∷ []) (askWork g work accepted) ⌝ }
+{
+    let answer = rows_cols_and_sides(g);
+    if answer.number != 0 {
+        return answer;
+    }
+    if !is_shaped(g) {
+        return Answer {
+            number: 20,
+            place: 0,
+        };
+    }
+    check(g, given, given, a, b, c, d, work)
 }

@@ -10,12 +10,12 @@ use Rattle.grid.specs.declared.Grid.{Grid}
 use Rattle.grid.specs.declared.Answer.{Answer}
 use Rattle.grid.specs.Sheet.{size, isData}
 use Rattle.grid.specs.Culvert.{opened, isLevelFor}
-use Rattle.grid.specs.Checks.{accepted, askOutlets, askWork, askCulvert, askReach, culvertCheck}
+use Rattle.grid.specs.Checks.{accepted, askFlow, askWork, askCulvert, askReach, culvertCheck}
 use Rattle.grid.specs.Promises.{FourResults, CulvertPromise}
 use Rattle.grid_laws.proofs.Cells.{on-sheet}
 use Rattle.cells.specs.Keys.{levelOf}
 use Rattle.checks.proofs.Gate.{Gate, one, both, passed, answered-no, answered-yes}
-use Rattle.checks.proofs.Asked.{Sized, outlets-check-gate}
+use Rattle.checks.proofs.Asked.{FlowSized, flow-check-gate}
 use Rattle.checks.proofs.Questions.{Late, yes-late, reach-late}
 use Rattle.drainage.specs.Results.{Measured}
 use Rattle.drainage.proofs.Promise.{asked}
@@ -30,16 +30,16 @@ culvert-gate e cell level = both (one (isData e cell) 15 cell (omega arith)) (on
 
 module _ (g : Grid) (e : List ℤ) (cell : ℕ) (level : ℤ) (f k a l w : ℕ) where
   -- what 15 and 16 are asked after
-  before-15 : Gate (λ later. askOutlets g (length e ∷ []) (f ∷ k ∷ a ∷ l ∷ []) (askWork g w later))
-      (Sized g (length e ∷ []) (f ∷ k ∷ a ∷ l ∷ []) w)
-  before-15 = outlets-check-gate g (length e ∷ []) (f ∷ k ∷ a ∷ l ∷ []) w
+  before-15 : Gate (λ later. askFlow g (length e ∷ []) (f ∷ k ∷ a ∷ l ∷ []) (askWork g w later))
+      (FlowSized g (length e ∷ []) (f ∷ k ∷ a ∷ l ∷ []) w)
+  before-15 = flow-check-gate g (length e ∷ []) (f ∷ k ∷ a ∷ l ∷ []) w
 
   -- and 18
   before-18 : Gate (askedTo16 g e cell level f k a l w)
-      (Sized g (length e ∷ []) (f ∷ k ∷ a ∷ l ∷ []) w × ((isData e cell ≡ true) × (isLevelFor e cell level ≡ true)))
+      (FlowSized g (length e ∷ []) (f ∷ k ∷ a ∷ l ∷ []) w × ((isData e cell ≡ true) × (isLevelFor e cell level ≡ true)))
   before-18 = both before-15 (culvert-gate e cell level)
 
-  -- `check_outlets` answers 5 to 9, and what 15 and 16 answer is the answer after a yes
+  -- `check_flow` answers 5 to 9, and what 15 and 16 answer is the answer after a yes
   module _ (r : Answer) (answered : r ≡ asked g (length e) f k a l w) where
     pub asked-no : (r .number ≡ 0 → ⊥) → r ≡ askedTo16 g e cell level f k a l w accepted
     asked-no n = answered-no before-15 answered n (askCulvert e cell level accepted)

@@ -30,7 +30,7 @@ fn ask(
     ensures { λ r. ⌜ r ≡ askedTo16 g (now (elevations .entry)) cell (levelOf key) filled codes counts labels work accepted ⌝ }
 {
     let given = elevations.len();
-    let sized = checks::check_outlets(g, given, filled, codes, counts, labels, work);
+    let sized = checks::check_flow(g, given, filled, codes, counts, labels, work);
     if sized.number != 0 {
         return sized;
     }

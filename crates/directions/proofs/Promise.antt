@@ -12,12 +12,13 @@ use Rattle.grid.specs.declared.Grid.{Grid}
 use Rattle.grid.specs.declared.Answer.{Answer}
 use Rattle.grid.specs.Sheet.{size, isData}
 use Rattle.grid.specs.Directions.{levels, directions, firstUnlevelled}
-use Rattle.grid.specs.Checks.{refusal, accepted, askCell, askOutlets, askWork, askReach, directionsCheck}
+use Rattle.grid.specs.Checks.{refusal, accepted, askCell, askFlow, askWork, askReach, directionsCheck}
 use Rattle.grid.specs.Promises.{DirectionsPromise}
 use Rattle.grid_laws.proofs.Tests.{cond-true, cond-false}
 use Rattle.grid_laws.proofs.Below.{first-≤}
 use Rattle.checks.proofs.Gate.{Gate, kept, passed, answered-no, answered-yes, is-accepted}
-use Rattle.checks.proofs.Asked.{Sized, outlets-check-gate, one-outlet-result}
+use Rattle.shape_laws.specs.Shaped.{Shaped}
+use Rattle.checks.proofs.Asked.{FlowSized, flow-check-gate, one-flow-result}
 use Rattle.checks.proofs.Questions.{cell-no, cell-yes, reach-yes, reach-above, reach-late, Late, number-late, yes-is-late}
 use Rattle.directions.proofs.Reached.{levelled-reach}
 
@@ -26,14 +27,14 @@ unfolding firstUnlevelled
 unlevelled-≤ g e = first-≤ (size g) (λ c. isData e c && eqb (getD (levels g e) c 0) 0)
 
 module _ (g : Grid) (e : List ℤ) (c₀ w₀ : List ℕ) (r : Answer)
-    (asked : r ≡ askOutlets g (length e ∷ []) (length c₀ ∷ length c₀ ∷ length c₀ ∷ length c₀ ∷ []) (askWork g (length w₀) accepted)) where
+    (asked : r ≡ askFlow g (length e ∷ []) (length c₀ ∷ length c₀ ∷ length c₀ ∷ length c₀ ∷ []) (askWork g (length w₀) accepted)) where
   -- what 18 and 10 are asked after
-  before-18 : Gate (λ later. askOutlets g (length e ∷ []) (length c₀ ∷ []) (askWork g (length w₀) later))
-      (Sized g (length e ∷ []) (length c₀ ∷ []) (length w₀))
-  before-18 = outlets-check-gate g (length e ∷ []) (length c₀ ∷ []) (length w₀)
+  before-18 : Gate (λ later. askFlow g (length e ∷ []) (length c₀ ∷ []) (askWork g (length w₀) later))
+      (FlowSized g (length e ∷ []) (length c₀ ∷ []) (length w₀))
+  before-18 = flow-check-gate g (length e ∷ []) (length c₀ ∷ []) (length w₀)
 
-  answered : r ≡ askOutlets g (length e ∷ []) (length c₀ ∷ []) (askWork g (length w₀) accepted)
-  answered = asked ∙ one-outlet-result g (length e) (length c₀) (askWork g (length w₀) accepted)
+  answered : r ≡ askFlow g (length e ∷ []) (length c₀ ∷ []) (askWork g (length w₀) accepted)
+  answered = asked ∙ one-flow-result g (length e) (length c₀) (askWork g (length w₀) accepted)
 
   pub refused-promise : (r .number ≡ 0 → ⊥) → DirectionsPromise g e c₀ c₀ w₀ w₀ r
   unfolding directionsCheck
@@ -45,12 +46,12 @@ module _ (g : Grid) (e : List ℤ) (c₀ w₀ : List ℕ) (r : Answer)
       }
 
   pub accepted-sizes : r .number ≡ 0 → (size g < 2 ^ 24) × (length e ≡ size g) × (length c₀ ≡ size g) × (4 * size g ≤ length w₀)
-      × (g .cols < 2 ^ 24)
+      × (g .cols < 2 ^ 24) × Shaped g
   accepted-sizes z =
       let s = passed before-18 answered z .fact in
       let c = s .fits .cells in
       let k = s .fits .cols-high in
-      (omega arith, s .inputs-have .0, s .results-have .0, s .room, omega arith)
+      (omega arith, s .inputs-have .0, s .results-have .0, s .room, omega arith, s .shaped)
 
   module _ (z : r .number ≡ 0) (first : ℕ) (place : first ≡ firstUnlevelled g e) (c₁ w₁ : List ℕ)
       (codes : c₁ ≡ cond (eqb first (size g)) (directions g e) c₀) (same : length w₁ ≡ length w₀) where
@@ -78,7 +79,7 @@ module _ (g : Grid) (e : List ℤ) (c₀ w₀ : List ℕ) (r : Answer)
         above = reach-above g e (refusal 10 first) (λ q. omega arith)
 
         late-10 : Late (refusal 10 first)
-        late-10 = number-late (omega arith) (λ q. omega arith)
+        late-10 = number-late 10 tt
 
     -- where every data cell has a level, none is stranded
     pub accepted-promise : length e ≤ first → DirectionsPromise g e c₀ c₁ w₀ w₁ r

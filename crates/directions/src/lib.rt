@@ -1,5 +1,5 @@
-// The call `directions` of document 01: the code of every cell, from any sheet. The questions 5 to 9 come first, 17 among them, then the
-// levels. Where every data cell has one, the codes lead each to an outlet, so that 18 needs no look of its own. Where one has none, 18 is
+// The call `directions` of document 01: the code of every cell, from any sheet. The questions 5 to 9 come first, 17 and 20 among them, then
+// the levels. Where every data cell has one, the codes lead each to an outlet, so that 18 needs no look of its own. Where one has none, 18 is
 // asked, for the first data cell without a chain to an outlet, and then 10 is the no; both leave the codes as they were.
 use grid::Answer;
 use grid::Grid;
@@ -32,7 +32,7 @@ fn lacking(g: Grid, elevations: &[i16], first: usize, work: &mut [u32]) -> Answe
     }
 }
 
-// Questions 5 to 10, with 17 and 18, and after a yes the codes.
+// Questions 5 to 10, with 17, 18 and 20, and after a yes the codes.
 pub fn directions(g: Grid, elevations: &[i16], codes: &mut [u8], work: &mut [u32]) -> Answer
     ensures { λ r. ⌜ DirectionsPromise g (now (elevations .entry)) (now (codes .entry)) (now (codes .exit)) (now (work .entry))
         (now (work .exit)) r ⌝ }
@@ -40,7 +40,7 @@ pub fn directions(g: Grid, elevations: &[i16], codes: &mut [u8], work: &mut [u32
     let given = elevations.len();
     let wanted = codes.len();
     let room = work.len();
-    let answer = checks::check_outlets(g, given, wanted, wanted, wanted, wanted, room);
+    let answer = checks::check_flow(g, given, wanted, wanted, wanted, wanted, room);
     if answer.number != 0 {
         return answer;
     }

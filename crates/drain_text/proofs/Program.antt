@@ -1,6 +1,7 @@
 -- The steps of the program, one after the other: what was read is what the definitions say, the one call accepts it, and what is printed
 -- is the definition's text.
-use mathlib.Core.Path.{_≡_, refl, sym, ap, ap₂, _∙_}
+use mathlib.Core.Path.{_≡_, refl, ap, ap₂, _∙_}
+use mathlib.Core.Bool.{true, _&&_}
 use mathlib.Core.List.{List}
 use Prim.Native.Nat.{ℕ, _*_, _≤_}
 use native.Mathlib.Nat.{mul-le-mul-left}
@@ -11,9 +12,9 @@ use borrow.Author.Tests.{le-leb, eq-eqb, ne-eqb}
 use Rattle.grid.specs.declared.Grid.{Grid}
 use Rattle.grid.specs.declared.Answer.{Answer}
 use Rattle.grid.specs.declared.Dimensions.{Dimensions}
-use Rattle.grid.specs.Sheet.{gridOf, closedGrid, size}
+use Rattle.grid.specs.Sheet.{gridOf, size}
 use Rattle.grid.specs.Outlet.{firstStranded}
-use Rattle.grid.specs.Checks.{accepted, askSize, allHave, askLengths, askSides, askOutlets, askWork, askReach}
+use Rattle.grid.specs.Checks.{accepted, askSize, allHave, askLengths, askSides, inShape, askShape, askFlow, askWork, askReach}
 use Rattle.grid.specs.Checks.{drainCheck}
 use Rattle.grid.specs.Frames.{textGrid, readCheck, resultText, refusalText, drainText, programText}
 use Rattle.grid.specs.Promises.{ReadPromise, DrainPromise}
@@ -25,13 +26,10 @@ use Rattle.drain_text.specs.Room.{Small, Lent}
 
 -- ---- reading
 
--- a text has no closed sides
-text-open : (text : List ℕ) → (textGrid text) .sides ≡ 0
+-- a text has no closed sides, and square cells
+text-open : (text : List ℕ) → gridOf ((textGrid text) .rows) ((textGrid text) .cols) ≡ textGrid text
 unfolding textGrid
 text-open text = refl
-
-open-grid : (g : Grid) → g .sides ≡ 0 → gridOf (g .rows) (g .cols) ≡ g
-open-grid g z = ap (closedGrid (g .rows) (g .cols)) (sym z)
 
 module _ (text : List ℕ) (e₀ e₁ : List ℤ) (r : Dimensions) (long : length e₀ ≡ 2304) (p : ReadPromise text e₀ e₁ r) where
   answer-is : record { number = r .number; place = r .place } ≡ readCheck text 2304
@@ -45,7 +43,7 @@ module _ (text : List ℕ) (e₀ e₁ : List ℤ) (r : Dimensions) (long : lengt
 
   module _ (yes : r .number ≡ 0) where
     grid-is : gridOf (r .rows) (r .cols) ≡ textGrid text
-    grid-is = ap₂ gridOf (read-rows text e₀ e₁ r p yes) (read-cols text e₀ e₁ r p yes) ∙ open-grid (textGrid text) (text-open text)
+    grid-is = ap₂ gridOf (read-rows text e₀ e₁ r p yes) (read-cols text e₀ e₁ r p yes) ∙ text-open text
 
     -- the sheet passes questions 4, 5 and 6
     pub read-small : FewCells (gridOf (r .rows) (r .cols)) (length e₀)
@@ -66,15 +64,21 @@ text-small g h k = omega (arith, mul-le-mul-left (g .rows) k)
 module _ (g : Grid) (e filled₀ filled₁ : List ℤ) (codes₀ codes₁ counts₀ counts₁ labels₀ labels₁ work₀ work₁ out₀ : List ℕ) (r : Answer)
     (small : Small g e out₀) (lent : Lent g filled₀ codes₀ counts₀ labels₀ work₀)
     (p : DrainPromise g e filled₀ filled₁ codes₀ codes₁ counts₀ counts₁ labels₀ labels₁ work₀ work₁ r) where
+  -- "the program uses them": square cells of 1 by 1
+  square-cells : (inShape (g .width) && inShape (g .height)) ≡ true
+  unfolding inShape
+  square-cells = rw (small .square .0, small .square .1) refl
+
   -- the one call accepts
   accepts : r ≡ accepted
-  unfolding drainCheck askOutlets askSides askLengths askSize askWork askReach allHave
+  unfolding drainCheck askFlow askSides askShape askLengths askSize askWork askReach allHave
   accepts =
       p .answer
       ∙ rw (
         range-of (small .fits .rows-low) (small .fits .rows-high),
         range-of (small .fits .cols-low) (small .fits .cols-high),
         le-leb (g .sides) 15 (let z = small .no-sides in omega arith),
+        square-cells,
         eq-eqb (firstStranded g e) (size g) (open-reach g (small .no-sides) e (small .elevations-size)),
         eq-eqb (length e) (size g) (small .elevations-size),
         eq-eqb (length filled₀) (size g) (lent .filled-size),

@@ -8,11 +8,12 @@ use Rattle.grid.specs.declared.Grid.{Grid}
 use Rattle.grid.specs.Sheet.{size}
 use Rattle.checks.specs.Sizes.{Fits}
 
--- a sheet with every side open that passes questions 4, 5 and 6, and room for its results as text
+-- a sheet with every side open and square cells that passes questions 4, 5 and 6, and room for its results as text
 pub record Small (g : Grid) (elevations : List ℤ) (out : List ℕ) : Type 0 where
   pub few : size g ≤ 2304
   pub fits : Fits g
   pub no-sides : g .sides ≡ 0
+  pub square : (g .width ≡ 1) × (g .height ≡ 1)
   pub elevations-size : length elevations ≡ size g
   pub room : 59913 ≤ length out
 

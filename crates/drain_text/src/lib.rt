@@ -70,6 +70,8 @@ pub fn run(text: &[u8], out: &mut [u8]) -> usize
             rows,
             cols,
             sides: 0,
+            width: 1,
+            height: 1,
         },
         &elevations[..n],
         out,

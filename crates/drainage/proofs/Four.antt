@@ -20,13 +20,13 @@ use Rattle.grid.specs.Guarantee.{Guarantee}
 use Rattle.grid.specs.Promises.{FourResults}
 use Rattle.grid_laws.proofs.Tests.{T-true, true-false, cond-true, cond-false}
 use Rattle.checks.proofs.Gate.{kept}
-use Rattle.checks.proofs.Asked.{Sized}
+use Rattle.checks.proofs.Asked.{FlowSized}
 use Rattle.checks.proofs.Questions.{reach-no}
 use Rattle.guarantee_laws.proofs.OneCall.{guaranteed}
 use Rattle.drainage.specs.Results.{Measured}
 
 -- what questions 5 to 9 say of the buffers
-pub measured : (g : Grid) (e f k a l w : ℕ) → Sized g (e ∷ []) (f ∷ k ∷ a ∷ l ∷ []) w → Measured g f k a l w
+pub measured : (g : Grid) (e f k a l w : ℕ) → FlowSized g (e ∷ []) (f ∷ k ∷ a ∷ l ∷ []) w → Measured g f k a l w
 measured g e f k a l w s =
     let h = s .results-have in
     record {
@@ -36,6 +36,7 @@ measured g e f k a l w s =
       counts-have = h .1 .1 .0;
       labels-have = h .1 .1 .1 .0;
       room = s .room;
+      shaped = s .shaped;
     }
 
 -- equal sheets have the same results

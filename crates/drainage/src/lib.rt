@@ -73,7 +73,7 @@ pub fn drain(
         (now (codes .exit)) (now (counts .entry)) (now (counts .exit)) (now (labels .entry)) (now (labels .exit)) (now (work .entry))
         (now (work .exit)) r ⌝ }
 {
-    let answer = checks::check_outlets(
+    let answer = checks::check_flow(
         g,
         elevations.len(),
         filled.len(),

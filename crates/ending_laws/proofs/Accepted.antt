@@ -18,7 +18,7 @@ use Rattle.grid.specs.Endings.{AcceptedCodes, CodesOfCalls}
 use Rattle.grid_laws.proofs.Tests.{true-T, cond-true, and-true}
 use Rattle.checks.specs.Sizes.{Fits}
 use Rattle.checks.proofs.Gate.{both, fact-of}
-use Rattle.checks.proofs.Asked.{sheets-gate, check-gate, outlets-check-gate, size-passes, same-fits, lengths-asked}
+use Rattle.checks.proofs.Asked.{sheets-gate, check-gate, flow-check-gate, size-passes, same-fits, lengths-asked}
 use Rattle.checks.proofs.Questions.{codes-gate, reach-gate, codes-yes}
 use Rattle.guarantee_laws.proofs.OneCall.{codes-length, none-bad, all-end}
 
@@ -66,7 +66,7 @@ from-elevations : (g : Grid) (e : List ℤ) (f c a l work : ℕ) → SixteenBits
     AcceptedCodes (gridOf (g .rows) (g .cols)) (directions g (filled g e))
 unfolding drainCheck
 from-elevations g e f c a l work range t =
-    let y = fact-of (both (outlets-check-gate g (length e ∷ []) (f ∷ c ∷ a ∷ l ∷ []) work) (reach-gate g e)) t in
+    let y = fact-of (both (flow-check-gate g (length e ∷ []) (f ∷ c ∷ a ∷ l ∷ []) work) (reach-gate g e)) t in
     let long = y .0 .inputs-have .0 in
     accepted-of (gridOf (g .rows) (g .cols)) (directions g (filled g e))
     (open-sound g (directions g (filled g e)) (record {

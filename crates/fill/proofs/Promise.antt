@@ -60,7 +60,7 @@ module _ (g : Grid) (e f₀ : List ℤ) (w₀ : List ℕ) (r : Answer)
               ap (refusal 18) place ∙ sym (reach-no g e accepted (let p = place in omega arith))
               ∙ answered-yes before-18 answered z (askReach g e accepted);
           result = written ∙ cond-false (filled g e) f₀ (ne-eqb first (size g) (λ q. let y : ⊥ = omega arith in absurd y));
-          work = record { same-length = same; untouched = λ t. absurd (number-late (omega arith) (λ q. omega arith) t) };
+          work = record { same-length = same; untouched = λ t. absurd (number-late 18 tt t) };
         }
 
     pub accepted-promise : length e ≤ first → FillPromise g e f₀ f₁ w₀ w₁ r

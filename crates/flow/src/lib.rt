@@ -13,6 +13,7 @@ ghost use lib.ListN.{length, getD};
 ghost use Rattle.grid.specs.Below.{table as table', firstBelow};
 ghost use Rattle.grid.specs.Sheet.{size, at, isData, codeAt};
 ghost use Rattle.grid.specs.Directions.{directionAt, directions, flatSum, firstUnlevelled};
+ghost use Rattle.shape_laws.specs.Shaped.{Shaped};
 ghost use Rattle.cells.specs.Keys.{levelOf};
 ghost use Rattle.cells.specs.Steps.{Inner, Offsets};
 ghost use Rattle.slopes.specs.Steepest.{choices as choices', innerSum};
@@ -27,6 +28,7 @@ fn edge_word(g: Grid, elevations: &[i16], table: &[u8; 256], cell: usize) -> u32
     requires { ⌜ size g < 2 ^ 24 ⌝ }
     requires { ⌜ cell < size g ⌝ }
     requires { ⌜ now table ≡ choices' ⌝ }
+    requires { ⌜ Shaped g ⌝ }
     ensures { λ r. ⌜ r ≡ firstWord g (now (elevations .entry)) cell ⌝ }
 {
     if key_at(elevations, cell) == 0 {
@@ -46,6 +48,7 @@ fn inner_word(g: Grid, elevations: &[i16], table: &[u8; 256], cell: usize, sum: 
     requires { ⌜ cell < size g ⌝ }
     requires { ⌜ now table ≡ choices' ⌝ }
     requires { ⌜ sum ≡ innerSum g (now elevations) cell ⌝ }
+    requires { ⌜ Shaped g ⌝ }
     ensures { λ r. ⌜ r ≡ firstWord g (now (elevations .entry)) cell ⌝ }
 {
     if sum < 256 {
@@ -70,6 +73,7 @@ fn inner_words(
     requires { ⌜ (from ≤ to) × (to ≤ size g) ⌝ }
     requires { ⌜ WordsTo g (now elevations) from (now work) ⌝ }
     requires { ⌜ SumsIn g (now elevations) from to (now work) ⌝ }
+    requires { ⌜ Shaped g ⌝ }
     ensures { λ r. ⌜ WordsTo g (now (elevations .entry)) to (now (work .exit)) ⌝ }
 {
     let mut cell = from;
@@ -94,6 +98,7 @@ fn edge_words(
     requires { ⌜ now table ≡ choices' ⌝ }
     requires { ⌜ (from ≤ to) × (to ≤ size g) ⌝ }
     requires { ⌜ WordsTo g (now elevations) from (now work) ⌝ }
+    requires { ⌜ Shaped g ⌝ }
     ensures { λ r. ⌜ WordsTo g (now (elevations .entry)) to (now (work .exit)) ⌝ }
 {
     let mut cell = from;
@@ -119,6 +124,7 @@ fn seed_row(
     requires { ⌜ (1 ≤ row) × (row + 2 ≤ g .rows) × (3 ≤ g .cols) ⌝ }
     requires { ⌜ WordsTo g (now elevations) (row * g .cols + 1) (now work) ⌝ }
     requires { ⌜ Offsets (g .cols) (now offsets) ⌝ }
+    requires { ⌜ Shaped g ⌝ }
     ensures { λ r. ⌜ WordsTo g (now (elevations .entry)) ((row + 1) * g .cols + 1) (now (work .exit)) ⌝ }
 {
     let cols = g.cols;
@@ -137,6 +143,7 @@ fn seed_rows(g: Grid, offsets: &[usize; 8], elevations: &[i16], table: &[u8; 256
     requires { ⌜ now table ≡ choices' ⌝ }
     requires { ⌜ (3 ≤ g .rows) × (3 ≤ g .cols) ⌝ }
     requires { ⌜ Offsets (g .cols) (now offsets) ⌝ }
+    requires { ⌜ Shaped g ⌝ }
     ensures { λ r. ⌜ Seeded g (now (elevations .entry)) (now (work .exit)) ⌝ }
 {
     let rows = g.rows;
@@ -156,6 +163,7 @@ fn seed(g: Grid, offsets: &[usize; 8], elevations: &[i16], work: &mut [u32])
     requires { ⌜ size g < 2 ^ 24 ⌝ }
     requires { ⌜ size g ≤ length (now work) ⌝ }
     requires { ⌜ Offsets (g .cols) (now offsets) ⌝ }
+    requires { ⌜ Shaped g ⌝ }
     ensures { λ r. ⌜ Seeded g (now (elevations .entry)) (now (work .exit)) ⌝ }
 {
     let table = slopes::choices();
@@ -547,6 +555,7 @@ pub fn directions_into(g: Grid, elevations: &[i16], codes: &mut [u8], work: &mut
     requires { ⌜ length (now codes) ≡ size g ⌝ }
     requires { ⌜ 4 * size g ≤ length (now work) ⌝ }
     requires { ⌜ g .cols < 2 ^ 24 ⌝ }
+    requires { ⌜ Shaped g ⌝ }
     ensures { λ r. ⌜ r ≡ firstUnlevelled g (now (elevations .entry)) ⌝ }
     ensures { λ r. ⌜ now (codes .exit) ≡ cond (eqb r (size g)) (directions g (now (elevations .entry))) (now (codes .entry)) ⌝ }
 {

@@ -4,7 +4,7 @@ use mathlib.Core.Bool.{Bool, true, false, not, _&&_}
 use mathlib.Core.Logic.{⊎-elim}
 use mathlib.Core.List.{List}
 use Prim.Native.Nat.{ℕ, zero, suc, _+_, _-_, _*_, _≤_, _<_}
-use native.Mathlib.Nat.{mul-right-comm, mul-lt-mul-of-pos-right, lt-of-mul-lt-mul-right, zero-mul}
+use native.Mathlib.Nat.{mul-right-comm, mul-lt-mul-of-pos-right, lt-of-mul-lt-mul-right, zero-mul, mul-zero, mul-comm}
 use native.Mathlib.Omega.{arith}
 use native.Mathlib.Decide.{decLt}
 use lib.Dec.{ltb}
@@ -14,7 +14,6 @@ use borrow.Author.Tests.{lt-ltb, le-ltb, ltb-true}
 use Rattle.grid.specs.declared.Grid.{Grid}
 use Rattle.grid.specs.Sheet.{at, isData, neighbour}
 use Rattle.grid.specs.Directions.{dropTo, squaredDistance, beats, beaten, isSteepest, hasDescent}
-use Rattle.grid_laws.proofs.Distances.{distance-positive}
 use Rattle.grid_laws.proofs.Tests.{test, true-T, T-true, true-false, and-true, and-left, and-right, not-of-false, not-true-false}
 use Rattle.grid_laws.proofs.Below.{any-of, some-of-any, none-of}
 use Rattle.flow_laws.proofs.Search.{last?}
@@ -74,12 +73,24 @@ module _ (g : Grid) (e : List ℤ) (c : ℕ) where
       (and-left (isData e (neighbour g c p)) _ l, drop-lower p (and-right (isData e (neighbour g c p)) _ l))
 
 -- ---- the order of weighted drops
-weigh : (x y z P K Q : ℕ) → 0 < P → 0 < Q → x * K < y * P → y * Q < z * K → x * Q < z * P
-weigh x y z P K Q hP hQ a b =
-    let i : x * K * Q < y * P * Q = mul-lt-mul-of-pos-right a hQ in
-    let j : y * Q * P < z * K * P = mul-lt-mul-of-pos-right b hP in
-    let r = mul-right-comm y P Q in
-    let s = mul-right-comm x K Q in
+positive-factor : (x y k : ℕ) → x < y * k → 0 < k
+positive-factor x y zero h = let e : y * 0 ≡ 0 = mul-zero y in let z : ⊥ = omega arith in absurd z
+positive-factor x y (suc k) h = omega arith
+
+-- x over P is below y over K, and that below z over Q. No distance need be above 0: nothing is above a drop over 0
+weigh : (x y z P K Q : ℕ) → x * K < y * P → y * Q < z * K → x * Q < z * P
+weigh x y z P K zero a b =
+    let e : x * 0 ≡ 0 = mul-zero x in
+    let q : 0 < z = positive-factor (y * 0) K z (rw (mul-comm K z) b) in
+    let r : 0 * P < z * P = mul-lt-mul-of-pos-right q (positive-factor (x * K) y P a) in
+    let s : 0 * P ≡ 0 = zero-mul P in
+    omega arith
+weigh x y z P K (suc Q) a b =
+    let hP : 0 < P = positive-factor (x * K) y P a in
+    let i : x * K * suc Q < y * P * suc Q = mul-lt-mul-of-pos-right a (omega arith) in
+    let j : y * suc Q * P < z * K * P = mul-lt-mul-of-pos-right b hP in
+    let r = mul-right-comm y P (suc Q) in
+    let s = mul-right-comm x K (suc Q) in
     let t = mul-right-comm z K P in
     lt-of-mul-lt-mul-right K (omega arith)
 
@@ -101,8 +112,8 @@ module _ (g : Grid) where
   beats-trans : (a b c : ℤ) (p q r : ℕ) → ltZ (pos 0) c ≡ true → beats g a p b q ≡ true → beats g b q c r ≡ true → beats g a p c r ≡ true
   unfolding beats
   beats-trans (pos a) (pos b) (pos c) p q r h w v =
-      lt-ltb _ _ (weigh (c * c) (b * b) (a * a) (squaredDistance g r) (squaredDistance g q) (squaredDistance g p) (distance-positive g r)
-      (distance-positive g p) (ltb-true _ _ v) (ltb-true _ _ w))
+      lt-ltb _ _ (weigh (c * c) (b * b) (a * a) (squaredDistance g r) (squaredDistance g q) (squaredDistance g p) (ltb-true _ _ v)
+      (ltb-true _ _ w))
   beats-trans (pos a) (pos b) (negsuc c) p q r h w v = refl
   beats-trans (pos a) (negsuc b) (pos c) p q r h w v = true-false v refl
   beats-trans (pos a) (negsuc b) (negsuc c) p q r h w v = refl

@@ -4,11 +4,11 @@ use mathlib.Core.List.{List, [], _∷_, map}
 use Prim.Native.Nat.{ℕ}
 use lib.Dec.{eqb}
 use lib.ListN.{getD}
-use lib.IntN.{ℤ, pos, negsuc}
+use lib.IntN.{ℤ, pos, negsuc, _-ℤ_}
 use Rattle.grid.specs.Below.{table}
 use Rattle.grid.specs.declared.Answer.{Answer}
 use Rattle.grid.specs.declared.Grid.{Grid}
-use Rattle.grid.specs.Sheet.{gridOf, closedGrid, eqZ}
+use Rattle.grid.specs.Sheet.{gridOf, closedGrid, shapedGrid, eqZ}
 use Rattle.grid.specs.Fill.{filled}
 use Rattle.grid.specs.Directions.{choice, directions}
 use Rattle.grid.specs.Routes.{route, counts, labels}
@@ -194,11 +194,22 @@ eastwardCodes : List ℕ
 unfolding eastward
 eastwardCodes = directions eastward (filled eastward cut)
 
+-- the code of the middle cell of 3 by 3, at elevation 0, with cells of a width and a height, where the others lie these numbers below it:
+-- east, north, north-east; the rest lies level
+codeAmid : (width height east north northEast : ℕ) → ℕ
+codeAmid width height east north northEast =
+    getD (directions (shapedGrid 3 3 0 width height)
+    (pos 0 ∷ (pos 0 -ℤ pos north) ∷ (pos 0 -ℤ pos northEast) ∷ pos 0 ∷ pos 0 ∷ (pos 0 -ℤ pos east) ∷ pos 0 ∷ pos 0 ∷ pos 0 ∷ [])) 4 0
+
+shapeIn : (sides width height room : ℕ) → List ℕ
+unfolding numberAndPlace cut
+shapeIn sides width height room = numberAndPlace (drainCheck (shapedGrid 3 4 sides width height) cut room 12 12 12 48)
+
 -- ---- the table
 
 unfoldable pub knownGround : List Case
 unfolding printed-input printed-output voids between middle basin hole pools poolNumbers bank opened-bank cut eastward corners
-    corners-read corners-written numberAndPlace culvertIn writeIn listsIn basinCodes openedCodes eastwardCodes
+    corners-read corners-written numberAndPlace culvertIn writeIn listsIn codeAmid shapeIn basinCodes openedCodes eastwardCodes
 knownGround =
     -- P1: the printed example, from text to text
     numbers (programText printed-input) printed-output
@@ -275,6 +286,26 @@ knownGround =
     ∷ numbers (numberAndPlace (culvertCheck (closedGrid 3 4 15) cut 7 (pos 6) 12 12 12 12 48)) (16 ∷ 7 ∷ [])
     ∷ numbers (numberAndPlace (fillCheck (closedGrid 3 5 16) cut 0 0)) (17 ∷ 0 ∷ [])
     ∷ numbers (numberAndPlace (fillCheck (closedGrid 3 0 16) cut 0 0)) (6 ∷ 0 ∷ [])
+    -- oblong cells of 3 by 4, with corners at 5: drops of 3, 4 and 5 tie, and the table decides; one more, and each leads
+    ∷ numbers (codeAmid 3 4 3 4 5 ∷ codeAmid 3 4 3 0 5 ∷ codeAmid 3 4 0 4 5 ∷ codeAmid 3 4 3 4 0 ∷ []) (1 ∷ 1 ∷ 1 ∷ 2 ∷ [])
+    ∷ numbers (codeAmid 3 4 4 4 5 ∷ codeAmid 3 4 3 5 5 ∷ codeAmid 3 4 3 4 6 ∷ codeAmid 3 4 2 3 4 ∷ []) (2 ∷ 128 ∷ 1 ∷ 1 ∷ [])
+    -- width and height the other way round, and square cells of any width: east 3, north 4, north-east 5 go to the north
+    ∷ numbers (codeAmid 4 3 3 4 5 ∷ codeAmid 1 1 3 4 5 ∷ codeAmid 7 7 3 4 5 ∷ codeAmid 1000 1000 3 4 5 ∷ []) (128 ∷ 128 ∷ 128 ∷ 128 ∷ [])
+    -- the extremes: 1,000 by 1 and 1 by 1,000, and the largest drops
+    ∷ numbers (codeAmid 1000 1 999 1 0 ∷ codeAmid 1000 1 1000 1 0 ∷ codeAmid 1000 1 1001 1 0 ∷ []) (128 ∷ 2 ∷ 2 ∷ [])
+    ∷ numbers (codeAmid 1 1000 1 999 0 ∷ codeAmid 1 1000 1 1000 0 ∷ codeAmid 1 1000 1 1001 0 ∷ []) (2 ∷ 2 ∷ 128 ∷ [])
+    ∷ numbers (codeAmid 1000 1 32767 32 0 ∷ codeAmid 1000 1 32767 33 0 ∷ codeAmid 1 1000 0 32766 32767 ∷ []) (2 ∷ 128 ∷ 1 ∷ [])
+    -- 0 and 1,001 are no width and no height: 20, after 17 and before 7 and 8; fill and ponds have no shape to ask for
+    ∷ numbers (shapeIn 0 1 1000 12) (0 ∷ 0 ∷ [])
+    ∷ numbers (shapeIn 0 1000 1 11) (8 ∷ 0 ∷ [])
+    ∷ numbers (shapeIn 0 0 1 11) (20 ∷ 0 ∷ [])
+    ∷ numbers (shapeIn 0 1001 1 11) (20 ∷ 0 ∷ [])
+    ∷ numbers (shapeIn 15 1 0 12) (20 ∷ 0 ∷ [])
+    ∷ numbers (shapeIn 0 1 1001 12) (20 ∷ 0 ∷ [])
+    ∷ numbers (shapeIn 16 0 0 12) (17 ∷ 0 ∷ [])
+    ∷ numbers (numberAndPlace (directionsCheck (shapedGrid 3 4 0 1 0) cut 12 48)) (20 ∷ 0 ∷ [])
+    ∷ numbers (numberAndPlace (culvertCheck (shapedGrid 3 4 0 0 1) cut 12 (pos 9) 12 12 12 12 0)) (20 ∷ 0 ∷ [])
+    ∷ numbers (numberAndPlace (fillCheck (shapedGrid 3 4 0 0 1001) cut 12 48)) (0 ∷ 0 ∷ [])
     -- a text: what is read from it, what is written, closed sides or not, and the same with its letters raised
     ∷ elevations (textSheet corners-read) corners
     ∷ numbers (elevationText (gridOf 2 2) corners) corners-written

@@ -12,7 +12,8 @@ use Rattle.grid.specs.Routes.{follow, endsBy, hasCode, receiver, countAt, label
 use Rattle.grid.specs.Joined.{joinPass, joinPasses, joined}
 use Rattle.grid.specs.Ponds.{isWet, pondOf, lowestCell, isLowest, ponds, pondCount, natural, depth, pondLevel, pondCells, pondVolume}
 use Rattle.grid.specs.Culvert.{opened, isLevelFor}
-use Rattle.grid.specs.Checks.{inRange, askSize, allHave, askLengths, askSides, askSheets, askOutlets, askWork, askReach, askCodes}
+use Rattle.grid.specs.Checks.{inRange, askSize, allHave, askLengths, askSides, inShape, askShape, askSheets, askOutlets, askFlow}
+use Rattle.grid.specs.Checks.{askWork, askReach, askCodes}
 use Rattle.grid.specs.Checks.{askCulvert, fillCheck, directionsCheck, codesCheck, drainCheck, pondsCheck, culvertCheck}
 use Rattle.grid.specs.Endings.{areNeighbours, isStray, firstStray, askList, endingCheck, sharedLength, sharedEnding}
 use Rattle.grid.specs.Frames.{hexValue, isTextByte, number4, textGrid, endsLine, isShaped, firstBadByte, readCheck, fromTwos, toTwos}
@@ -27,7 +28,8 @@ unfolding allHold knownGround table anyBelow sumBelow countBelow firstBelow join
     dropTo squaredDistance beats beaten isSteepest steepestSum member score bestOf choice isEqual hasDescent isLevelZero levelPassAt
     levelPasses levels flatSum directionAt directions firstUnlevelled follow endsBy hasCode receiver countAt labelAt counts labels
     firstBadCode firstEndless joinPass joinPasses joined isWet pondOf lowestCell isLowest ponds pondCount natural depth pondLevel
-    pondCells pondVolume opened isLevelFor inRange askSize allHave askLengths askSides askSheets askOutlets askWork askReach askCodes
+    pondCells pondVolume opened isLevelFor inRange askSize allHave askLengths askSides inShape askShape askSheets askOutlets
+    askFlow askWork askReach askCodes
     fillCheck directionsCheck codesCheck drainCheck pondsCheck askCulvert culvertCheck areNeighbours isStray firstStray askList
     endingCheck sharedLength sharedEnding hexValue isTextByte number4 textGrid endsLine
     isShaped firstBadByte readCheck fromTwos toTwos textSheet upperDigit hexText sheetText headerText elevationText resultText

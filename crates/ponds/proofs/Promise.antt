@@ -41,7 +41,7 @@ module _ (g : Grid) (e : List ℤ) (w : List ℕ) (count : ℕ) (Z : Sizes g e (
       let q = count-is g e w count Z N in
       record {
         range = N .range;
-        late = number-late (omega arith) (λ q. omega arith);
+        late = number-late 14 tt;
         answer =
             ap (refusal 14) q
             ∙ sym (cond-false accepted (refusal 14 (P.pondCount g e)) (lt-leb (P.pondCount g e) (length level₀) (omega arith)));
@@ -81,7 +81,7 @@ module _ (g : Grid) (e : List ℤ) (range : SixteenBits e) (first : ℕ) (place 
   settled-stranded {level₀ = level₀} h =
       record {
         range = range;
-        late = number-late (omega arith) (λ q. omega arith);
+        late = number-late 18 tt;
         answer = ap (refusal 18) place ∙ sym (reach-no g e (asked14 g e level₀) (let p = place in omega arith));
         count = refl;
         ponds = refl;

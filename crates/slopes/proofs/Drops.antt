@@ -16,16 +16,20 @@ use borrow.Author.Count.{below-more}
 use borrow.Author.Tests.{ltb-true, lt-ltb, le-ltb, eq-eqb, ne-eqb, eqb-false}
 use Rattle.grid.specs.declared.Grid.{Grid}
 use Rattle.grid.specs.Below.{table, anyBelow}
-use Rattle.grid.specs.Sheet.{size, void, at, isData, neighbour, codeAt, IsElevation}
+use Rattle.grid.specs.Sheet.{size, void, at, isData, neighbour, cellAt, codeAt, IsElevation}
 use Rattle.grid.specs.Outlet.{leavesAt, isOutlet}
 use Rattle.grid.specs.Directions.{dropTo, squaredDistance, beats, beaten, isSteepest, steepestSum}
+use Rattle.grid.specs.Shapes.{reshaped}
 use Rattle.grid_laws.proofs.Tests.{test, and-false-left, cond-true, cond-false, or-none-right}
 use Rattle.grid_laws.proofs.Below.{any-ext, no-of-any, sum-ext, is-table, at-table}
+use Rattle.shape_laws.proofs.Squares.{square-sum}
+use Rattle.shape_laws.proofs.Shapes.{same-outlet}
 use Rattle.cells.specs.Keys.{keyOf}
 use Rattle.cells.specs.Around.{KnownTo}
 use Rattle.cells.proofs.Keys.{Known, data-key, zero-key, zero-no-data, key-falls, key-drop, key-difference}
 use Rattle.cells.proofs.Codes.{leaves-key}
-use Rattle.slopes.specs.Steepest.{keysOf, keyOr, edgeKeys, squareAt, unbeaten, steepestIn, anyVoid, markedIn, innerSum}
+use Rattle.slopes.specs.Steepest.{keysOf, keyOr, edgeKeys, distanceOf, squareAt, unbeaten, steepestIn, anyVoid, markedIn}
+use Rattle.slopes.specs.Steepest.{innerSum}
 
 -- the definition of the larger weighted drop, for drops that are not negative, is a comparison of products: what the function `beats`
 -- works out
@@ -100,6 +104,13 @@ module _ (g : Grid) (e : List ℤ) (c : ℕ) (known : KnownTo g e c 8) where
   abbrev own : ℕ
   own = keyOf (at e c)
 
+  -- the squared distances to east and west, and to north and south
+  abbrev across : ℕ
+  across = g .width * g .width
+
+  abbrev along : ℕ
+  along = g .height * g .height
+
   -- ---- over keys that are the own where no data lies, the drops are those of the definition
   module _ (hc : void ≤ℤ at e c) (l : List ℕ) (around : (q : ℕ) → q < 8 → getD l q 0 ≡ keyOr own (key q)) where
     void-here : (q : ℕ) → q < 8 → key q ≡ 0 → (isData e (neighbour g c q) ≡ false) × (getD l q 0 ≡ own)
@@ -170,8 +181,8 @@ module _ (g : Grid) (e : List ℤ) (c : ℕ) (known : KnownTo g e c 8) where
             let d = data-here q hq f in
             ap (λ (t : Bool). t && beats g (dropTo g e c q) q (dropTo g e c p) p) (d .0) ∙ go (d .1) (decLt own (key q))
 
-    steep-is : (p : ℕ) → p < 8 → isSteepest g e c p ≡ unbeaten g own l p
-    unfolding isSteepest beaten unbeaten
+    steep-is : (p : ℕ) → p < 8 → isSteepest g e c p ≡ unbeaten (distanceOf across along) own l p
+    unfolding isSteepest beaten unbeaten squaredDistance
     steep-is p h = go (ltb (getD l p 0) own) refl
       where
         go : (t : Bool) → ltb (getD l p 0) own ≡ t → isSteepest g e c p ≡ (ltb (getD l p 0) own && not (anyBelow 8 (over p)))
@@ -181,14 +192,14 @@ module _ (g : Grid) (e : List ℤ) (c : ℕ) (known : KnownTo g e c 8) where
             (λ q k. beats-is p q h k (ltb-true (getD l p 0) own t))))
         go false t = and-false-left (not (beaten g e c p)) (fall-is p h ∙ t) ∙ sym (and-false-left (not (anyBelow 8 (over p))) t)
 
-    steepest-is : steepestIn g own l ≡ steepestSum g e c
+    steepest-is : steepestIn across along own l ≡ steepestSum g e c
     unfolding steepestSum steepestIn
     steepest-is =
-        sum-ext 8 (λ p. cond (unbeaten g own l p) (codeAt p) 0) (λ p. cond (isSteepest g e c p) (codeAt p) 0)
+        sum-ext 8 (λ p. cond (unbeaten (distanceOf across along) own l p) (codeAt p) 0) (λ p. cond (isSteepest g e c p) (codeAt p) 0)
         (λ p h. ap (λ (t : Bool). cond t (codeAt p) 0) (sym (steep-is p h)))
 
   -- for any cell
-  pub edge-is : void ≤ℤ at e c → steepestIn g own (edgeKeys g e c) ≡ steepestSum g e c
+  pub edge-is : void ≤ℤ at e c → steepestIn across along own (edgeKeys g e c) ≡ steepestSum g e c
   unfolding edgeKeys
   edge-is hc = steepest-is hc (edgeKeys g e c) (λ q h. at-table 8 (λ p. keyOr own (key p)) q 0 h)
 
@@ -216,12 +227,12 @@ module _ (g : Grid) (e : List ℤ) (c : ℕ) (known : KnownTo g e c 8) where
         both true v o w p q = sym (ap₂ (λ (x y : Bool). not (x || y)) p q)
         both false v o w p q = sym (ap₂ (λ (x y : Bool). not (x || y)) p q)
 
-    pub marked-is : markedIn g (keyOf (at e c)) l ≡ innerSum g e c
+    pub marked-is : markedIn across along (keyOf (at e c)) l ≡ innerSum g e c
     unfolding markedIn innerSum anyVoid
     marked-is = ⊎-elim near clear (test (anyVoid (keyOf (at e c)) l))
       where
-        near : anyVoid (keyOf (at e c)) l ≡ true → markedIn g (keyOf (at e c)) l ≡ innerSum g e c
-        near t = cond-true 256 (steepestIn g (keyOf (at e c)) l) t ∙ sym (cond-false (steepestSum g e c) 256 (void-near ∙ ap not t))
+        near : anyVoid (keyOf (at e c)) l ≡ true → markedIn across along (keyOf (at e c)) l ≡ innerSum g e c
+        near t = cond-true 256 (steepestIn across along (keyOf (at e c)) l) t ∙ sym (cond-false (steepestSum g e c) 256 (void-near ∙ ap not t))
 
         no-void : (q : ℕ) → anyVoid (keyOf (at e c)) l ≡ false → q < 8 → key q ≡ 0 → ⊥
         no-void q t h z =
@@ -229,8 +240,22 @@ module _ (g : Grid) (e : List ℤ) (c : ℕ) (known : KnownTo g e c 8) where
             (no-of-any 8 (λ r. eqb (getD l r 0) 0) (or-none-right (eqb (keyOf (at e c)) 0) (anyBelow 8 (λ r. eqb (getD l r 0) 0)) t) q h)
             (around q h ∙ z)
 
-        clear : anyVoid (keyOf (at e c)) l ≡ false → markedIn g (keyOf (at e c)) l ≡ innerSum g e c
+        clear : anyVoid (keyOf (at e c)) l ≡ false → markedIn across along (keyOf (at e c)) l ≡ innerSum g e c
         clear t =
-            cond-false 256 (steepestIn g (keyOf (at e c)) l) t
+            cond-false 256 (steepestIn across along (keyOf (at e c)) l) t
             ∙ steepest-is hc l (λ q h. around q h ∙ sym (key-or-data own (key q) (no-void q t h)))
             ∙ sym (cond-true (steepestSum g e c) 256 (void-near ∙ ap not t))
+
+-- square cells go by the distances of 1 by 1
+pub square-marked : (g : Grid) (e : List ℤ) (c : ℕ) → g .width ≡ g .height → 0 < g .width → KnownTo g e c 8 →
+    ((q : ℕ) → q < 8 → neighbour g c q < size g) → void ≤ℤ at e c → markedIn 1 1 (keyOf (at e c)) (keysOf g e c) ≡ innerSum g e c
+unfolding keysOf innerSum neighbour cellAt
+square-marked g e c square wide known on hc =
+    marked-is (reshaped g 1 1) e c known on hc
+    ∙ ap₂ (λ (o : Bool) (s : ℕ). cond (isData e c && not o) s 256) (same-outlet g 1 1 e c) (sym (square-sum g square wide e c))
+
+-- what the functions work out of a cell's key and the keys around it
+pub marked-by : (w h : ℕ) {own k : ℕ} {l m : List ℕ} {sum r : ℕ} → own ≡ k → l ≡ m → sum ≡ steepestIn w h own l →
+    r ≡ cond (anyVoid own l) 256 sum → r ≡ markedIn w h k m
+unfolding markedIn
+marked-by w h eo el es er = er ∙ rw (es, eo, el) refl

@@ -90,4 +90,4 @@ module _ (g : Grid) (codes counts : List ℕ) (threshold : ℕ) (s₀ w₀ : Lis
         }
       where
         late : Late (askCell 12 g (firstEndless g codes) accepted)
-        late = cell-late 12 (firstEndless g codes) g accepted (omega arith) (λ q. omega arith) yes-late
+        late = cell-late 12 (firstEndless g codes) g accepted tt yes-late

@@ -7,7 +7,7 @@ use grid::Dimensions;
 use grid::Grid;
 use grid::Located;
 use grid::Part;
-ghost use Rattle.grid.specs.Sheet.{gridOf, closedGrid};
+ghost use Rattle.grid.specs.Sheet.{gridOf, closedGrid, shapedGrid};
 ghost use Rattle.grid.specs.Promises.{CountsPromise, CulvertPromise, DirectionsPromise, DrainPromise, FillPromise, LabelsPromise};
 ghost use Rattle.grid.specs.Promises.{ListsPromise, PartPromise, PondsPromise, PourPointsPromise, ReadPromise, StartsPromise};
 ghost use Rattle.grid.specs.Promises.{WatershedsPromise, WritePromise};
@@ -29,6 +29,8 @@ pub extern "C" fn tervuola_fill(
         rows: rows as usize,
         cols: cols as usize,
         sides: sides as usize,
+        width: 1,
+        height: 1,
     };
     fill::fill(g, elevations, filled, work)
 }
@@ -54,6 +56,8 @@ pub extern "C" fn tervuola_ponds(
         rows: rows as usize,
         cols: cols as usize,
         sides: sides as usize,
+        width: 1,
+        height: 1,
     };
     ponds::ponds(g, elevations, ponds, level, cells, volume, work)
 }
@@ -64,17 +68,21 @@ pub extern "C" fn tervuola_directions(
     rows: u32,
     cols: u32,
     sides: u32,
+    width: u32,
+    height: u32,
     elevations: &[i16],
     codes: &mut [u8],
     work: &mut [u32],
 ) -> Answer
-    ensures { λ r. ⌜ DirectionsPromise (closedGrid rows cols sides) (now (elevations .entry)) (now (codes .entry)) (now (codes .exit))
+    ensures { λ r. ⌜ DirectionsPromise (shapedGrid rows cols sides width height) (now (elevations .entry)) (now (codes .entry)) (now (codes .exit))
         (now (work .entry)) (now (work .exit)) r ⌝ }
 {
     let g = Grid {
         rows: rows as usize,
         cols: cols as usize,
         sides: sides as usize,
+        width: width as usize,
+        height: height as usize,
     };
     directions::directions(g, elevations, codes, work)
 }
@@ -95,6 +103,8 @@ pub extern "C" fn tervuola_counts(
         rows: rows as usize,
         cols: cols as usize,
         sides: 0,
+        width: 1,
+        height: 1,
     };
     counts::counts(g, codes, counts, work)
 }
@@ -115,6 +125,8 @@ pub extern "C" fn tervuola_labels(
         rows: rows as usize,
         cols: cols as usize,
         sides: 0,
+        width: 1,
+        height: 1,
     };
     labels::labels(g, codes, labels, work)
 }
@@ -125,6 +137,8 @@ pub extern "C" fn tervuola_drain(
     rows: u32,
     cols: u32,
     sides: u32,
+    width: u32,
+    height: u32,
     elevations: &[i16],
     filled: &mut [i16],
     codes: &mut [u8],
@@ -132,7 +146,7 @@ pub extern "C" fn tervuola_drain(
     labels: &mut [u32],
     work: &mut [u32],
 ) -> Answer
-    ensures { λ r. ⌜ DrainPromise (closedGrid rows cols sides) (now (elevations .entry)) (now (filled .entry)) (now (filled .exit))
+    ensures { λ r. ⌜ DrainPromise (shapedGrid rows cols sides width height) (now (elevations .entry)) (now (filled .entry)) (now (filled .exit))
         (now (codes .entry)) (now (codes .exit)) (now (counts .entry)) (now (counts .exit)) (now (labels .entry)) (now (labels .exit))
         (now (work .entry)) (now (work .exit)) r ⌝ }
 {
@@ -140,6 +154,8 @@ pub extern "C" fn tervuola_drain(
         rows: rows as usize,
         cols: cols as usize,
         sides: sides as usize,
+        width: width as usize,
+        height: height as usize,
     };
     drainage::drain(g, elevations, filled, codes, counts, labels, work)
 }
@@ -150,6 +166,8 @@ pub extern "C" fn tervuola_culvert(
     rows: u32,
     cols: u32,
     sides: u32,
+    width: u32,
+    height: u32,
     elevations: &[i16],
     cell: u32,
     level: i16,
@@ -159,7 +177,7 @@ pub extern "C" fn tervuola_culvert(
     labels: &mut [u32],
     work: &mut [u32],
 ) -> Answer
-    ensures { λ r. ⌜ CulvertPromise (closedGrid rows cols sides) (now (elevations .entry)) cell level (now (filled .entry))
+    ensures { λ r. ⌜ CulvertPromise (shapedGrid rows cols sides width height) (now (elevations .entry)) cell level (now (filled .entry))
         (now (filled .exit)) (now (codes .entry)) (now (codes .exit)) (now (counts .entry)) (now (counts .exit)) (now (labels .entry))
         (now (labels .exit)) (now (work .entry)) (now (work .exit)) r ⌝ }
 {
@@ -167,6 +185,8 @@ pub extern "C" fn tervuola_culvert(
         rows: rows as usize,
         cols: cols as usize,
         sides: sides as usize,
+        width: width as usize,
+        height: height as usize,
     };
     culvert::culvert(
         g,
@@ -198,6 +218,8 @@ pub extern "C" fn tervuola_watersheds(
         rows: rows as usize,
         cols: cols as usize,
         sides: 0,
+        width: 1,
+        height: 1,
     };
     watersheds::watersheds(g, codes, starts, watersheds, work)
 }
@@ -220,6 +242,8 @@ pub extern "C" fn tervuola_starts(
         rows: rows as usize,
         cols: cols as usize,
         sides: 0,
+        width: 1,
+        height: 1,
     };
     starts::starts(g, codes, counts, threshold, starts, work)
 }
@@ -244,6 +268,8 @@ pub extern "C" fn tervuola_pour_points(
         rows: rows as usize,
         cols: cols as usize,
         sides: 0,
+        width: 1,
+        height: 1,
     };
     pour_points::pour_points(g, elevations, labels, smaller, larger, elevation, cell)
 }
@@ -262,6 +288,8 @@ pub extern "C" fn tervuola_check_lists(
         rows: rows as usize,
         cols: cols as usize,
         sides: 0,
+        width: 1,
+        height: 1,
     };
     lists::check_lists(g, first, second)
 }
@@ -281,6 +309,8 @@ pub extern "C" fn tervuola_shared_ending(
         rows: rows as usize,
         cols: cols as usize,
         sides: 0,
+        width: 1,
+        height: 1,
     };
     let part = ending::shared_ending(g, first, second);
     let count = part.len();
@@ -312,6 +342,8 @@ pub extern "C" fn tervuola_write(
         rows: rows as usize,
         cols: cols as usize,
         sides: 0,
+        width: 1,
+        height: 1,
     };
     writer::write(g, elevations, text)
 }

@@ -112,6 +112,6 @@ module _ (text : List ℕ) where
 
 -- the two numbers of the header
 pub header-grid : (text : List ℕ) {rows cols : ℕ} → rows ≡ number4 text 0 → cols ≡ number4 text 4 →
-    _≡_ {A = Grid} record { rows = rows; cols = cols; sides = 0 } (textGrid text)
+    _≡_ {A = Grid} record { rows = rows; cols = cols; sides = 0; width = 1; height = 1 } (textGrid text)
 unfolding textGrid
 header-grid text e f = rw (e, f)

@@ -48,6 +48,8 @@ pub fn header(text: &[u8]) -> Grid
         rows: first.value as usize,
         cols: second.value as usize,
         sides: 0,
+        width: 1,
+        height: 1,
     }
 }
 

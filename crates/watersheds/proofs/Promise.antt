@@ -2,7 +2,6 @@
 use mathlib.Core.Path.{_≡_, refl, sym, _∙_, subst}
 use mathlib.Core.List.{List, [], _∷_}
 use Prim.Native.Nat.{ℕ, _*_, _≤_}
-use native.Mathlib.Omega.{arith}
 use lib.ListN.{length}
 use Rattle.grid.specs.declared.Grid.{Grid}
 use Rattle.grid.specs.declared.Answer.{Answer}
@@ -67,4 +66,4 @@ module _ (g : Grid) (codes starts k₀ w₀ : List ℕ) (r : Answer)
         }
       where
         late : Late (routesCheck g codes starts)
-        late = codes-late g codes _ (cell-late 13 (firstBadStart g codes starts) g accepted (omega arith) (λ q. omega arith) yes-late)
+        late = codes-late g codes _ (cell-late 13 (firstBadStart g codes starts) g accepted tt yes-late)

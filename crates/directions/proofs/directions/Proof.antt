@@ -7,29 +7,29 @@ use Rattle.directions.proofs.Promise.{refused-promise, accepted-sizes, 
 use Rattle.directions.proofs.directions.Statement.{statement}
 use Rattle.directions.proofs.directions.Tie as tie
 
-check-outlets-requires : tie.Need-check-outlets-requires
-check-outlets-requires c κs = search needs
+check-flow-requires : tie.Need-check-flow-requires
+check-flow-requires c κs = search needs
 
 returns : tie.Need-returns
 returns c =
     let a = c .before .before .before .before .before .args in
-    let k = c .before .before .check-outlets in
+    let k = c .before .before .check-flow in
     refused-promise (a .g) (a .elevations .now) (a .codes .now) (a .work .now) (k .result) (k .ensures) (c .if1 .taken)
 
 directions-into-requires : tie.Need-directions-into-requires
 directions-into-requires c κs =
     let yes = c .before .before in
-    let k = yes .before .before .check-outlets in
+    let k = yes .before .before .check-flow in
     let a = yes .before .before .before .before .before .args in
     let s = accepted-sizes (a .g) (a .elevations .now) (a .codes .now) (a .work .now) (k .result) (k .ensures) (yes .if1 .left) in
-    (s .0, (s .1, (s .2, (s .3, s .4))))
+    (s .0, (s .1, (s .2, (s .3, (s .4, s .5)))))
 
 lacking-requires : tie.Need-lacking-requires
 lacking-requires c κs =
     let t = c .before in
     let d = t .before .before .before .before .before .directions-into in
     let yes = t .before .before .before .before .before .before .before .before in
-    let k = yes .before .before .check-outlets in
+    let k = yes .before .before .check-flow in
     let a = yes .before .before .before .before .before .args in
     let s = accepted-sizes (a .g) (a .elevations .now) (a .codes .now) (a .work .now) (k .result) (k .ensures) (yes .if1 .left) in
     let len = s .1 in
@@ -50,7 +50,7 @@ returns-2 c =
     let t = l .before .before in
     let d = t .before .before .before .before .before .directions-into in
     let yes = t .before .before .before .before .before .before .before .before in
-    let k = yes .before .before .check-outlets in
+    let k = yes .before .before .check-flow in
     let a = yes .before .before .before .before .before .args in
     lacking-promise (a .g) (a .elevations .now) (a .codes .now) (a .work .now) (k .result) (k .ensures) (yes .if1 .left) (d .result)
     (d .ensures .0) (d .last .1 .1 .0) (l .lacking .last .1 .1 .1 .0) (d .ensures .1) (l .lacking .kept .1 .1 .1 .0 ∙ d .kept .1 .1 .1 .0)
@@ -66,7 +66,7 @@ returns-3 : tie.Need-returns-3
 returns-3 c =
     let d = c .before .before .before .before .before .directions-into in
     let yes = c .before .before .before .before .before .before .before .before in
-    let k = yes .before .before .check-outlets in
+    let k = yes .before .before .check-flow in
     let a = yes .before .before .before .before .before .args in
     accepted-promise (a .g) (a .elevations .now) (a .codes .now) (a .work .now) (k .result) (k .ensures) (yes .if1 .left) (d .result)
     (d .ensures .0) (d .last .1 .1 .0) (d .last .1 .1 .1 .0) (d .ensures .1) (d .kept .1 .1 .1 .0) (c .if2 .left)
@@ -75,7 +75,7 @@ pub directions-spec : {M : Type 1} → statement M
 directions-spec =
     tie.close
     (tie.spec
-    check-outlets-requires
+    check-flow-requires
     returns
     directions-into-requires
     lacking-requires

@@ -55,6 +55,7 @@ drain-sheet-requires c κs =
       few = p .few;
       fits = p .fits;
       no-sides = refl;
+      square = (refl, refl);
       elevations-size = length-take-le _ _ (omega (arith, p .few, r .kept .1 .0));
       room = c .before .before .before .before .before .before .before .before .before .before .pre;
     }

@@ -13,12 +13,12 @@ use Rattle.drainage.proofs.Promise.{sized, promise-of-no, promise-of-ye
 use Rattle.drainage.proofs.drain.Statement.{statement}
 use Rattle.drainage.proofs.drain.Tie as tie
 
-check-outlets-requires : tie.Need-check-outlets-requires
-check-outlets-requires c κs = search needs
+check-flow-requires : tie.Need-check-flow-requires
+check-flow-requires c κs = search needs
 
 returns : tie.Need-returns
 returns c =
-    let k = c .before .before .check-outlets in
+    let k = c .before .before .check-flow in
     let a = c .before .before .before .before .before .before .before .args in
     promise-of-no (a .g) (a .elevations .now) (a .filled .now) (a .codes .now) (a .counts .now) (a .labels .now) (a .work .now)
     (k .result) (k .ensures) (c .if1 .taken)
@@ -26,7 +26,7 @@ returns c =
 load-requires : tie.Need-load-requires
 load-requires c κs =
     let y = c .before in
-    let k = y .before .before .check-outlets in
+    let k = y .before .before .check-flow in
     let a = y .before .before .before .before .before .before .before .args in
     let z = sized (a .g) (length (a .elevations .now)) (length (a .filled .now)) (length (a .codes .now)) (length (a .counts .now))
     (length (a .labels .now)) (length (a .work .now)) (k .result) (k .ensures) (y .if1 .left) in
@@ -39,7 +39,7 @@ drain-loaded-requires c κs =
     let b = c .before .before .before .before .before .before .before in
     let l = b .load in
     let y = b .before .before in
-    let k = y .before .before .check-outlets in
+    let k = y .before .before .check-flow in
     let a = y .before .before .before .before .before .before .before .args in
     let z = sized (a .g) (length (a .elevations .now)) (length (a .filled .now)) (length (a .codes .now)) (length (a .counts .now))
     (length (a .labels .now)) (length (a .work .now)) (k .result) (k .ensures) (y .if1 .left) in (
@@ -69,7 +69,7 @@ returns-2 c =
     let b = d .before .before .before .before .before .before .before .before in
     let l = b .load in
     let y = b .before .before in
-    let k = y .before .before .check-outlets in
+    let k = y .before .before .check-flow in
     let a = y .before .before .before .before .before .before .before .args in
     let z = sized (a .g) (length (a .elevations .now)) (length (a .filled .now)) (length (a .codes .now)) (length (a .counts .now))
     (length (a .labels .now)) (length (a .work .now)) (k .result) (k .ensures) (y .if1 .left) in
@@ -83,7 +83,7 @@ pub drain-spec : {M : Type 1} → statement M
 drain-spec =
     tie.close
     (tie.spec
-    check-outlets-requires
+    check-flow-requires
     returns
     load-requires
     drain-loaded-requires

@@ -5,13 +5,13 @@ use Rattle.flow.proofs.directions_into.Statement.{statement}
 use Rattle.flow.proofs.directions_into.Tie as tie
 
 offsets-requires : tie.Need-offsets-requires
-offsets-requires c κs = c .before .before .pre .1 .1 .1 .1
+offsets-requires c κs = c .before .before .pre .1 .1 .1 .1 .0
 
 seed-requires : tie.Need-seed-requires
 seed-requires c κs =
     let s = c .before .before .before .before .before in
     let long = s .pre .1 .1 .1 .0 in
-    (s .pre .1 .0, (s .pre .0, (omega arith, c .before .before .offsets .ensures)))
+    (s .pre .1 .0, (s .pre .0, (omega arith, (c .before .before .offsets .ensures, s .pre .1 .1 .1 .1 .1))))
 
 levels-requires : tie.Need-levels-requires
 levels-requires c κs =

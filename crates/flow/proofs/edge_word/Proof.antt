@@ -45,7 +45,7 @@ choose-requires c κs =
     let a = s .args in
     let small = sum-below (a .g) (a .elevations .now) (a .cell) in
     let is = c .edge-sum .ensures in
-    (s .pre .1 .1 .1, omega arith)
+    (s .pre .1 .1 .1 .0, omega arith)
 
 cast-result-2 : tie.Need-cast-result-2
 cast-result-2 c = search needs

@@ -16,14 +16,14 @@ abbrev μ-loop : tie.MeasureT-loop
 μ-loop g elevations table from to work₀ cell₀ work cell = to - cell
 
 loop-holds : tie.Need-loop-holds Inv-loop μ-loop
-loop-holds c = let s = c .before in (omega arith, s .pre .1 .1 .1 .1 .0 .0, refl, s .pre .1 .1 .1 .1 .1)
+loop-holds c = let s = c .before in (omega arith, s .pre .1 .1 .1 .1 .0 .0, refl, s .pre .1 .1 .1 .1 .1 .0)
 
 edge-word-requires : tie.Need-edge-word-requires Inv-loop μ-loop
 edge-word-requires c κs =
     let s = c .before .before .before in
     let last = s .pre .1 .1 .1 .1 .0 .1 in
     let test = c .loop-test .taken in
-    (s .pre .0, (s .pre .1 .0, (omega arith, s .pre .1 .1 .1 .0)))
+    (s .pre .0, (s .pre .1 .0, (omega arith, (s .pre .1 .1 .1 .0, s .pre .1 .1 .1 .1 .1 .1))))
 
 -- the cell's place is in the work buffer
 within : (c : tie.After-edge-word Inv-loop μ-loop) → c .before .before .loop .cell < length (c .before .before .loop .work)

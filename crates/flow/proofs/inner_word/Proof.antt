@@ -14,7 +14,7 @@ returns : tie.Need-returns
 returns c =
     let s = c .before .before in
     c .choose .ensures
-    ∙ sum-word (s .args .g) (s .args .elevations .now) (s .args .cell) (s .args .sum) (s .pre .1 .1 .1 .1) (c .before .if1 .taken)
+    ∙ sum-word (s .args .g) (s .args .elevations .now) (s .args .cell) (s .args .sum) (s .pre .1 .1 .1 .1 .0) (c .before .if1 .taken)
 
 edge-word-requires : tie.Need-edge-word-requires
 edge-word-requires c κs = search needs

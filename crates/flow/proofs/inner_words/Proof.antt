@@ -17,7 +17,7 @@ abbrev μ-loop : tie.MeasureT-loop
 μ-loop g elevations table from to work₀ cell₀ work cell = to - cell
 
 loop-holds : tie.Need-loop-holds Inv-loop μ-loop
-loop-holds c = let s = c .before in (omega arith, s .pre .1 .1 .1 .1 .0 .0, refl, s .pre .1 .1 .1 .1 .1 .0, s .pre .1 .1 .1 .1 .1 .1)
+loop-holds c = let s = c .before in (omega arith, s .pre .1 .1 .1 .1 .0 .0, refl, s .pre .1 .1 .1 .1 .1 .0, s .pre .1 .1 .1 .1 .1 .1 .0)
 
 -- the cell's place is in the work buffer
 within : (c : tie.In-loop Inv-loop μ-loop) → c .before .loop .cell < length (c .before .loop .work)
@@ -50,7 +50,7 @@ inner-word-requires c κs =
     let s = n .before .before .before in
     let last = s .pre .1 .1 .1 .1 .0 .1 in
     let test = n .loop-test .taken in
-    (s .pre .0, (s .pre .1 .0, (omega arith, (s .pre .1 .1 .1 .0, l .inv .4 (l .cell) (omega arith) test))))
+    (s .pre .0, (s .pre .1 .0, (omega arith, (s .pre .1 .1 .1 .0, (l .inv .4 (l .cell) (omega arith) test, s .pre .1 .1 .1 .1 .1 .1 .1)))))
 
 mul-work : tie.Need-mul-work Inv-loop μ-loop
 mul-work c = let h = small (c .before .before) in omega arith

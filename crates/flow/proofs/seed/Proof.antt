@@ -16,7 +16,7 @@ edge-words-requires c κs =
         s .pre .1 .0,
         (
           s .pre .1 .1 .0,
-          (made .choices .ensures, ((omega arith, omega arith), λ i h. let z : ⊥ = omega arith in absurd z)),
+          (made .choices .ensures, ((omega arith, omega arith), ((λ i h. let z : ⊥ = omega arith in absurd z), s .pre .1 .1 .1 .1))),
         ),
       ),
     )
@@ -40,7 +40,7 @@ edge-words-requires-2 c κs =
         s .pre .1 .0,
         (
           s .pre .1 .1 .0,
-          (made .choices .ensures, ((omega arith, omega arith), λ i h. let z : ⊥ = omega arith in absurd z)),
+          (made .choices .ensures, ((omega arith, omega arith), ((λ i h. let z : ⊥ = omega arith in absurd z), s .pre .1 .1 .1 .1))),
         ),
       ),
     )

@@ -66,7 +66,7 @@ inner-words-requires c κs =
           omega arith,
           (
             s .pre .1 .1 .1 .0,
-            ((omega arith, omega (arith, room s)), ((λ i h. sums .ensures .1 i h ∙ s .pre .1 .1 .1 .1 .1 .0 i h), sums .ensures .0)),
+            ((omega arith, omega (arith, room s)), ((λ i h. sums .ensures .before i h ∙ s .pre .1 .1 .1 .1 .1 .0 i h), (sums .ensures .sums, s .pre .1 .1 .1 .1 .1 .1 .1))),
           ),
         ),
       ),
@@ -87,7 +87,7 @@ edge-words-requires c κs =
     let long = s .pre .1 .1 .0 in
     let same = inner .kept .1 .1 .1 .1 .1 .0 in
     let same₀ = summed .row-sums .kept .1 .1 .1 .1 .1 .0 in
-    (s .pre .0, (s .pre .1 .0, (omega arith, (s .pre .1 .1 .1 .0, ((omega arith, omega (arith, room s)), inner .ensures)))))
+    (s .pre .0, (s .pre .1 .0, (omega arith, (s .pre .1 .1 .1 .0, ((omega arith, omega (arith, room s)), (inner .ensures, s .pre .1 .1 .1 .1 .1 .1 .1))))))
 
 same-length : tie.Need-same-length
 same-length c = search needs

@@ -6,11 +6,11 @@ use borrow.Author.Needs.{needs}
 use Rattle.slopes.proofs.larger.Statement.{statement}
 use Rattle.slopes.proofs.larger.Tie as tie
 
-squared-distance-requires : tie.Need-squared-distance-requires
-squared-distance-requires c κs = search needs
+weight-requires : tie.Need-weight-requires
+weight-requires c κs = search needs
 
-squared-distance-requires-2 : tie.Need-squared-distance-requires-2
-squared-distance-requires-2 c κs = search needs
+weight-requires-2 : tie.Need-weight-requires-2
+weight-requires-2 c κs = search needs
 
 leads-requires : tie.Need-leads-requires
 leads-requires c κs = search needs
@@ -41,20 +41,19 @@ returns : tie.Need-returns
 returns c =
     let p1 = c .before .before in
     let l1 = p1 .before in
-    let d0 = l1 .before in
-    let d1 = d0 .before in
-    let s = d1 .before in
+    let w2 = l1 .before in
+    let w1 = w2 .before in
+    let s = w1 .before .args in
     ap₂ _+_ (p1 .pick .ensures) (c .pick2 .ensures)
-    ∙ larger-is (s .args .g) (s .args .a) (s .args .b) (s .args .sides) (s .args .corners) (d1 .squared-distance .ensures .0)
-    (d0 .squared-distance2 .ensures .0)
-    (l1 .leads .ensures) (c .before .leads2 .ensures)
+    ∙ larger-is (s .a) (s .sides) (s .b) (s .corners) (w1 .weight .ensures) (w2 .weight2 .ensures) (l1 .leads .ensures)
+    (c .before .leads2 .ensures)
 
 pub larger-spec : {M : Type 1} → statement M
 larger-spec =
     tie.close
     (tie.spec
-    squared-distance-requires
-    squared-distance-requires-2
+    weight-requires
+    weight-requires-2
     leads-requires
     pick-requires
     leads-requires-2

@@ -1,7 +1,7 @@
-use Rattle.slopes.proofs.Classes.{steepest-by}
+use Rattle.slopes.proofs.Classes.{square-by}
 use borrow.Author.Needs.{needs}
-use Rattle.slopes.proofs.steepest_of.Statement.{statement}
-use Rattle.slopes.proofs.steepest_of.Tie as tie
+use Rattle.slopes.proofs.steepest_square.Statement.{statement}
+use Rattle.slopes.proofs.steepest_square.Tie as tie
 
 low-side-requires : tie.Need-low-side-requires
 low-side-requires c κs = search needs
@@ -33,11 +33,11 @@ returns c =
     let lc = sc .before in
     let ls = lc .before in
     let s = ls .before in
-    steepest-by (s .args .g) (s .args .own) (s .args .keys .now) (ls .low-side .ensures) (lc .low-corner .ensures) (f1 .fall .ensures)
+    square-by (s .args .own) (s .args .keys .now) (ls .low-side .ensures) (lc .low-corner .ensures) (f1 .fall .ensures)
     (f2 .fall2 .ensures) (sc .side-codes .ensures .0) (cc .corner-codes .ensures .0) (c .larger .ensures)
 
-pub steepest-of-spec : {M : Type 1} → statement M
-steepest-of-spec =
+pub steepest-square-spec : {M : Type 1} → statement M
+steepest-square-spec =
     tie.close
     (tie.spec
     low-side-requires

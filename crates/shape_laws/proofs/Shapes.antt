@@ -1,0 +1,149 @@
+-- Outlets, fill and levels read rows, columns and closed sides alone; of a code only the sum of the largest drops goes by the shape.
+use mathlib.Core.Path.{_≡_, refl, sym, _∙_, ap}
+use mathlib.Core.Bool.{Bool, true, false, not, cond, _&&_}
+use mathlib.Core.List.{List, [], _∷_}
+use Prim.Native.Nat.{ℕ, zero, suc, _*_}
+use lib.Dec.{eqb, leb}
+use lib.ListN.{getD}
+use lib.IntN.{ℤ}
+use borrow.Author.Tests.{leb-true}
+use Rattle.grid.specs.declared.Grid.{Grid}
+use Rattle.grid.specs.Below.{table, firstBelow}
+use Rattle.grid.specs.Sheet.{size, isData, neighbour, cellAt, Chain}
+use Rattle.grid.specs.Joined.{joinPass, joinPasses, joined}
+use Rattle.grid.specs.Outlet.{isOpen, leavesAt, isOutlet, outletCode, drained, firstStranded}
+use Rattle.grid.specs.Fill.{startAt, lowestTo, passAt, passes, filled}
+use Rattle.grid.specs.Directions.{dropTo, isEqual, hasDescent, isLevelZero, levelPassAt, levelPasses, levels, flatSum, choice, steepestSum}
+use Rattle.grid.specs.Directions.{directionAt, directions, firstUnlevelled}
+use Rattle.grid.specs.Guarantee.{DrainedSheet}
+use Rattle.grid.specs.Checks.{inShape}
+use Rattle.grid.specs.Shapes.{reshaped, SquareCells, AnyUnit, AnyShape}
+use Rattle.grid_laws.proofs.Tests.{and-left, and-right}
+use Rattle.grid_laws.proofs.Below.{table-ext}
+use Rattle.shape_laws.specs.Shaped.{Shaped}
+use Rattle.shape_laws.proofs.Squares.{square-sum, unit-sum}
+
+-- what a yes to 20 says
+pub shaped-of : (g : Grid) → (inShape (g .width) && inShape (g .height)) ≡ true → Shaped g
+unfolding inShape
+shaped-of g y =
+    let w = and-left (inShape (g .width)) (inShape (g .height)) y in
+    let h = and-right (inShape (g .width)) (inShape (g .height)) y in
+    record {
+      width-low = leb-true 1 (g .width) (and-left (leb 1 (g .width)) (leb (g .width) 1000) w);
+      width-high = leb-true (g .width) 1000 (and-right (leb 1 (g .width)) (leb (g .width) 1000) w);
+      height-low = leb-true 1 (g .height) (and-left (leb 1 (g .height)) (leb (g .height) 1000) h);
+      height-high = leb-true (g .height) 1000 (and-right (leb 1 (g .height)) (leb (g .height) 1000) h);
+    }
+
+module _ (g : Grid) (width height : ℕ) (e : List ℤ) where
+  abbrev other : Grid
+  other = reshaped g width height
+
+  pub same-outlet : (c : ℕ) → isOutlet other e c ≡ isOutlet g e c
+  unfolding isOutlet leavesAt isOpen neighbour cellAt
+  same-outlet c = refl
+
+  same-outlet-code : (c : ℕ) → outletCode other e c ≡ outletCode g e c
+  unfolding outletCode leavesAt isOpen neighbour cellAt
+  same-outlet-code c = refl
+
+  same-joined : (k : ℕ) → joinPasses other (isData e) (isOutlet other e) k ≡ joinPasses g (isData e) (isOutlet g e) k
+  unfolding joinPasses joinPass isOutlet leavesAt isOpen neighbour cellAt
+  same-joined zero = refl
+  same-joined (suc k) = ap (λ (l : List Bool). table (size g) (joinPass g (isData e) (isOutlet g e) l)) (same-joined k)
+
+  same-stranded : firstStranded other e ≡ firstStranded g e
+  unfolding firstStranded drained joined
+  same-stranded = ap (λ (l : List Bool). firstBelow (size g) (λ c. isData e c && not (getD l c false))) (same-joined (size g))
+
+  same-passes : (k : ℕ) → passes other e k ≡ passes g e k
+  unfolding passes passAt lowestTo startAt isOutlet leavesAt isOpen neighbour cellAt
+  same-passes zero = refl
+  same-passes (suc k) = ap (λ (f : List ℤ). table (size g) (passAt g e f)) (same-passes k)
+
+  same-fill : filled other e ≡ filled g e
+  unfolding filled
+  same-fill = same-passes (size g)
+
+  same-level-passes : (k : ℕ) → levelPasses other e k ≡ levelPasses g e k
+  unfolding levelPasses levelPassAt isLevelZero hasDescent dropTo isEqual isOutlet leavesAt isOpen neighbour cellAt
+  same-level-passes zero = refl
+  same-level-passes (suc k) = ap (λ (l : List ℕ). table (size g) (levelPassAt g e l k)) (same-level-passes k)
+
+  same-levels : levels other e ≡ levels g e
+  unfolding levels
+  same-levels = same-level-passes (size g)
+
+  same-unlevelled : firstUnlevelled other e ≡ firstUnlevelled g e
+  unfolding firstUnlevelled
+  same-unlevelled = ap (λ (l : List ℕ). firstBelow (size g) (λ c. isData e c && eqb (getD l c 0) 0)) same-levels
+
+  -- chains and paths
+  chain-to : (l : List ℕ) → Chain other e l → Chain g e l
+  unfolding neighbour cellAt
+  chain-to [] h = h
+  chain-to (c ∷ []) h = h
+  chain-to (c ∷ d ∷ l) h = (h .0, h .1, chain-to (d ∷ l) (h .2))
+
+  chain-from : (l : List ℕ) → Chain g e l → Chain other e l
+  unfolding neighbour cellAt
+  chain-from [] h = h
+  chain-from (c ∷ []) h = h
+  chain-from (c ∷ d ∷ l) h = (h .0, h .1, chain-from (d ∷ l) (h .2))
+
+  drained-to : (f : List ℤ) → DrainedSheet other e f → DrainedSheet g e f
+  unfolding isOutlet leavesAt isOpen neighbour cellAt
+  drained-to f D = record {
+    cells = D .cells;
+    voids = D .voids;
+    outlets = D .outlets;
+    above = D .above;
+    drains = λ c d. let w = D .drains c d in
+        (w .0, record { starts = w .1 .starts; chain = chain-to (w .0) (w .1 .chain); outlet = w .1 .outlet }, w .2);
+  }
+
+  drained-from : (f : List ℤ) → DrainedSheet g e f → DrainedSheet other e f
+  unfolding isOutlet leavesAt isOpen neighbour cellAt
+  drained-from f D = record {
+    cells = D .cells;
+    voids = D .voids;
+    outlets = D .outlets;
+    above = D .above;
+    drains = λ c d. let w = D .drains c d in
+        (w .0, record { starts = w .1 .starts; chain = chain-from (w .0) (w .1 .chain); outlet = w .1 .outlet }, w .2);
+  }
+
+pub any-shape : AnyShape
+any-shape g width height e = record {
+  outlets = same-outlet g width height e;
+  outlet-codes = same-outlet-code g width height e;
+  eighteen = same-stranded g width height e;
+  fill = same-fill g width height e;
+  drained = drained-to g width height e;
+  drained-back = drained-from g width height e;
+  flats = same-levels g width height e;
+  ten = same-unlevelled g width height e;
+}
+
+-- codes with the same sums
+module _ (g : Grid) (width height : ℕ) (e : List ℤ)
+    (same : (c : ℕ) → steepestSum g e c ≡ steepestSum (reshaped g width height) e c) where
+  same-code : (l : List ℕ) (c : ℕ) → directionAt g e l c ≡ directionAt (reshaped g width height) e l c
+  unfolding directionAt outletCode hasDescent dropTo flatSum isEqual isOutlet leavesAt isOpen neighbour cellAt
+  same-code l c =
+      ap (λ (s : ℕ). cond (isData e c)
+      (cond (isOutlet g e c) (outletCode g e c) (cond (hasDescent g e c) (choice s) (choice (flatSum g e l c)))) 0) (same c)
+
+  same-codes : directions g e ≡ directions (reshaped g width height) e
+  unfolding directions
+  same-codes =
+      table-ext (size g) (directionAt g e (levels g e)) (directionAt (reshaped g width height) e (levels g e))
+      (λ c h. same-code (levels g e) c)
+      ∙ ap (λ (l : List ℕ). table (size g) (directionAt (reshaped g width height) e l)) (sym (same-levels g width height e))
+
+pub square-cells : SquareCells
+square-cells g e square wide = same-codes g 1 1 e (square-sum g square wide e)
+
+pub any-unit : AnyUnit
+any-unit g e k above = same-codes (reshaped g (k * g .width) (k * g .height)) (g .width) (g .height) e (unit-sum g k above e)

@@ -1,0 +1,2 @@
+-- What a yes to 20 says of the shape.
+pub mod Shaped
