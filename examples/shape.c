@@ -1,7 +1,7 @@
 /*
- * A sheet of oblong cells: shape WIDTH HEIGHT <sheet. WIDTH, from west to east, and HEIGHT, from north to south, are whole numbers from 1 to
- * 1,000 in any one unit, such as the metres of a cell. The sheet is read as text (docs/FORMATS.md) from standard input. Prints the direction codes
- * with cells of this shape, and each cell where square ones would send the water another way.
+ * A sheet of oblong cells: shape WIDTH HEIGHT <sheet. WIDTH, from west to east, and HEIGHT, from north to south, are whole numbers from 1
+ * to 1,000 in any one unit, such as the metres of a cell. The sheet is read as text (docs/FORMATS.md) from standard input. Prints the
+ * direction codes with cells of this shape, and each cell where square ones would send the water another way.
  */
 #include "tervuola.h"
 #include <stdio.h>
@@ -38,7 +38,8 @@ int main(int argc, char **argv)
     tervuola_dimensions d = tervuola_read(text, length, elevations, CELLS);
     if (d.number != TERVUOLA_OK) return refused(d.number, d.place);
     size_t n = (size_t)d.rows * d.cols;
-    tervuola_answer a = tervuola_drain(d.rows, d.cols, 0, width, height, elevations, n, filled, n, codes, n, counts, n, labels, n, work, 4 * CELLS);
+    tervuola_answer a = tervuola_drain(d.rows, d.cols, 0, width, height, elevations, n, filled, n, codes, n, counts, n, labels, n, work,
+                                       4 * CELLS);
     if (a.number != TERVUOLA_OK) return refused(a.number, a.place);
     /* the filled sheet is the same for every shape */
     a = tervuola_directions(d.rows, d.cols, 0, 1, 1, filled, n, square, n, work, 4 * CELLS);

@@ -6,6 +6,7 @@
  * INPUT is an SRTM tile (.hgt, big-endian, 1201 or 3601 square), a raw raster (.bil with its .hdr beside it, 16 bits) or an
  * ESRI ASCII grid (.asc). Writes OUTPUT.filled.bil, .codes.bil, .counts.bil and .labels.bil, each with its .hdr, and OUTPUT.ppm:
  * shaded relief in the colours of the basins, with streams where at least THRESHOLD (default 200) other cells drain through.
+ * Cells are taken as square, also where the file says otherwise: examples/shape.c shows how to give a shape.
  * Exit status: 0, 1 where the library refuses the sheet, 2 for a wrong call or a file that cannot be read or written.
  */
 #include "tervuola.h"

@@ -142,6 +142,7 @@ static void outlets_answer(const char *call, u32 number, const Desc &d, const V<
     met[{20, 7}] += e.size() != d.n();
     met[{20, 8}] += !results;
     met[{20, 9}] += work.n < 4 * d.n();
+    met[{20, 18}] += e.size() == d.n() && first_stranded(d, e) < d.n();
   }
   if (number == 9 || number == 15 || number == 16)
     met[{number, 18}] += first_stranded(d, e) < d.n();
@@ -191,12 +192,13 @@ static void outlets_round(const char *name, outlets_call<Out> call, Said said, c
       },
       said, d, e0, len, round);
 }
-// Cells with a largest drop at a side and a corner at once, those with it at a side each way at once, and sheets whose codes are not those
-// of square cells, among the accepted ones.
-static u64 side_corner_ties = 0, side_side_ties = 0, three_ties = 0, other_codes = 0;
+// Cells that are no outlets and have their largest drop at a side and a corner at once, those of them on the border, those with it at a side each way
+// and at no corner, those with it at all three, and sheets whose codes are not those of square cells, among the accepted ones of oblong cells.
+static u64 side_corner_ties = 0, border_ties = 0, side_side_ties = 0, three_ties = 0, other_codes = 0;
 static void count_ties(const Desc &d, const V<i16> &e) {
+  V<u8> out = fast::outlets(d, e);
   for (u64 c = 0; c < d.n(); c++) {
-    if (e[c] == VOIDMARK)
+    if (e[c] == VOIDMARK || out[c])
       continue;
     i64 best = 0;
     int at = -1, corners = 0, across = 0, along = 0;
@@ -216,7 +218,9 @@ static void count_ties(const Desc &d, const V<i16> &e) {
         if (pass == 1 && order == 0)
           (p % 2 == 0 ? corners : p % 4 == 1 ? across : along) = 1;
       }
+    bool border = c < d.cols || c >= d.n() - d.cols || c % d.cols == 0 || c % d.cols == d.cols - 1;
     side_corner_ties += corners && (across || along);
+    border_ties += border && corners && (across || along);
     side_side_ties += across && along && !corners;
     three_ties += corners && across && along;
   }
@@ -958,32 +962,69 @@ static void small_sheets(u64 seed) {
   part = "round";
 }
 
-// The middle cell of 3 by 3, with drops of all sizes of a list to a side across, to one along and to the corner between them, in each of the
-// four quarters, at the top of the range; and with every shape. The lists have drops that tie, one less and one more, and the largest.
+// the whole root of a square, or 0
+static i64 whole_root(u64 square) {
+  u64 k = 0;
+  while (k * k < square)
+    k++;
+  return k * k == square ? (i64)k : 0;
+}
+// the drops that tie with a shape, the same doubled, one less and one more of each, and the largest there are
+static V<i64> tying_drops(u64 w, u64 h) {
+  std::set<i64> l{0, 1, 2, 32767, 65534};
+  for (i64 k : {(i64)w, (i64)h, whole_root(w * w + h * h)})
+    for (i64 m : {k - 1, k, k + 1, 2 * k})
+      if (k > 0)
+        l.insert(m);
+  return V<i64>(l.begin(), l.end());
+}
+// Cells with all these drops to a side across, to one along and to the corner between them, in each of the four quarters, with every shape. A block of
+// three columns, and one of voids so that the cell's neighbours are outlets, has the cell in its middle, and up to 1,000 blocks stand side by side, so that
+// the sums of many cells are worked out together; and blocks with drops that tie also by themselves as two rows, with the cell on a closed side.
 static void tied_drops() {
-  static const V<i64> near{0, 2, 3, 4, 5, 6, 8, 10}, far{0, 1, 2, 999, 1000, 1001, 32767, 65534};
-  ENGINE = LITERAL;
+  ENGINE = FAST;
   part = "drops";
   u64 i = 0;
+  gen::Rng g(1);
+  Lengths len{g, false};
   for (auto &shape : SHAPES)
-    for (auto &list : {near, far})
-      for (int quarter = 0; quarter < 4; quarter++)
-        for (i64 a : list)
-          for (i64 b : list)
-            for (i64 c : list) {
-              gen::Rng g(++i);
-              Lengths len{g, false};
-              Desc d;
-              d.rows = d.cols = 3;
-              d.width = shape[0];
-              d.height = shape[1];
-              V<i16> e(9, 32767);
-              int column = quarter % 2 ? 2 : 0, row = quarter / 2 ? 2 : 0;
-              e[(size_t)(3 + column)] = (i16)(32767 - a);
-              e[(size_t)(3 * row + 1)] = (i16)(32767 - b);
-              e[(size_t)(3 * row + column)] = (i16)(32767 - c);
-              directions_round(d, e, len, i);
-            }
+    for (int quarter = 0; quarter < 4; quarter++) {
+      const V<i64> drops = tying_drops(shape[0], shape[1]);
+      const u64 k = drops.size(), all = k * k * k, column = quarter % 2 ? 2 : 0, row = quarter / 2 ? 2 : 0;
+      Desc d, two;
+      d.width = two.width = shape[0];
+      d.height = two.height = shape[1];
+      d.rows = 3;
+      two.rows = 2;
+      two.cols = 3;
+      two.closed = row ? NORTH : SOUTH;
+      for (u64 from = 0; from < all; from += 1000) {
+        u64 blocks = std::min<u64>(1000, all - from);
+        d.cols = 4 * blocks;
+        V<i16> e(d.n(), 32767);
+        for (u64 m = 0; m < blocks; m++) {
+          i64 a = drops[(from + m) % k], b = drops[(from + m) / k % k], c = drops[(from + m) / k / k];
+          u64 at = 4 * m;
+          e[d.cols + at + column] = (i16)(32767 - a);
+          e[row * d.cols + at + 1] = (i16)(32767 - b);
+          e[row * d.cols + at + column] = (i16)(32767 - c);
+          for (u64 r = 0; r < 3; r++)
+            e[r * d.cols + at + 3] = VOIDMARK;
+          if (cmp_drop(d, a, 1, b, 3) && cmp_drop(d, a, 1, c, 0) && cmp_drop(d, b, 3, c, 0))
+            continue;
+          u64 own = row ? 0 : 3, beside = 3 - own;
+          V<i16> f(6, 32767);
+          f[own + column] = (i16)(32767 - a);
+          f[beside + 1] = (i16)(32767 - b);
+          f[beside + column] = (i16)(32767 - c);
+          directions_round(two, f, len, ++i);
+        }
+        u64 done = answers["directions"][0];
+        directions_round(d, e, len, ++i);
+        if (answers["directions"][0] != done + 1)
+          fail("directions", "that all drops side by side are accepted", i);
+      }
+    }
   part = "round";
 }
 
@@ -1047,13 +1088,14 @@ static int rounds(u64 count, u64 seed) {
   printf("compare: shared endings: %llu the whole first list, %llu a part of it, %llu empty; whole routes: %llu meet, %llu never do; %llu times both lists bad\n",
          (unsigned long long)shared_whole, (unsigned long long)shared_part, (unsigned long long)shared_none, (unsigned long long)routes_met,
          (unsigned long long)routes_apart, (unsigned long long)both_bad);
-  printf("compare: largest drops that tie: %llu at a side and a corner, %llu at sides both ways, %llu at all three; %llu sheets of oblong cells with other codes "
-         "than square ones have\n",
-         (unsigned long long)side_corner_ties, (unsigned long long)side_side_ties, (unsigned long long)three_ties, (unsigned long long)other_codes);
+  printf("compare: largest drops that tie: %llu at a side and a corner, %llu of them on a closed side, %llu at sides both ways, %llu at all three; %llu sheets "
+         "of oblong cells with other codes than square ones have\n",
+         (unsigned long long)side_corner_ties, (unsigned long long)border_ties, (unsigned long long)side_side_ties, (unsigned long long)three_ties,
+         (unsigned long long)other_codes);
   bool all = every_answer("counts", {0, 5, 6, 7, 8, 9, 11, 12});
   all = every_answer("labels", {0, 5, 6, 7, 8, 9, 11, 12}) && all;
   all = every_outlets_answer("fill", {0, 5, 6, 17, 7, 8, 9, 18}, {}) && all;
-  const V<std::pair<u32, u32>> shape{{5, 20}, {6, 20}, {17, 20}, {20, 7}, {20, 8}, {20, 9}};
+  const V<std::pair<u32, u32>> shape{{5, 20}, {6, 20}, {17, 20}, {20, 7}, {20, 8}, {20, 9}, {20, 18}};
   V<std::pair<u32, u32>> culvert(shape);
   culvert.insert(culvert.end(), {{15, 18}, {16, 18}});
   all = every_outlets_answer("directions", {0, 5, 6, 17, 20, 7, 8, 9, 18, 10}, shape) && all;
@@ -1062,7 +1104,7 @@ static int rounds(u64 count, u64 seed) {
   all = every_outlets_answer("culvert", {0, 5, 6, 17, 20, 7, 8, 9, 15, 16, 18}, culvert) && all;
   all = every_answer("write", {0, 4, 5, 6, 7, 8}) && every_order("write", {{4, 5}, {4, 6}, {4, 7}, {4, 8}, {5, 6}, {5, 7}, {5, 8}, {6, 7}, {6, 8}, {7, 8}}) && all;
   all = every_answer("check_lists", {0, 5, 6, 19}) && every_order("check_lists", {{5, 6}, {5, 19}, {6, 19}}) && all;
-  all = all && side_corner_ties && side_side_ties && three_ties && other_codes;
+  all = all && side_corner_ties && border_ties && side_side_ties && three_ties && other_codes;
   all = all && shared_whole && shared_part && shared_none && routes_met && routes_apart && both_bad;
   return checks && all && opened_border && opened_banks && inward_wet && inward_flat && raised_texts && exact_rooms && short_rooms ? 0 : 1;
 }

@@ -104,15 +104,15 @@ pub sides-gate : (g : Grid) → Gate (askSides g) (leb (g .sides) 15 ≡ true)
 unfolding askSides
 sides-gate g = one (leb (g .sides) 15) 17 0 (omega arith)
 
+-- 5, 6 and 17
+pub size-and-sides-gate : (g : Grid) → Gate (λ later. askSize g (askSides g later)) (Fits g)
+size-and-sides-gate g = weaken (λ f. f .0) (both (size-gate g) (sides-gate g))
+
 pub outlets-gate : (g : Grid) (inputs results : List ℕ) → Gate (askOutlets g inputs results) (Sheets g inputs results)
 unfolding askOutlets
 outlets-gate g inputs results =
-    weaken (λ f. record { fits = f .0; inputs-have = f .1 .1 .0; results-have = f .1 .1 .1 })
-    (both (size-gate g) (both (sides-gate g) (lengths-gate g inputs results)))
-
--- 5, 6 and 17
-pub sized-gate : (g : Grid) → Gate (λ later. askSize g (askSides g later)) (Fits g)
-sized-gate g = weaken (λ f. f .0) (both (size-gate g) (sides-gate g))
+    weaken (λ f. record { fits = f .0; inputs-have = f .1 .0; results-have = f .1 .1 })
+    (both (size-and-sides-gate g) (lengths-gate g inputs results))
 
 -- 20
 pub shape-gate : (g : Grid) → Gate (askShape g) (Shaped g)
@@ -185,7 +185,7 @@ unfolding askFlow
 flow-check-gate g inputs results work =
     weaken
     (λ f. record { fits = f .0; shaped = f .1 .0; inputs-have = f .1 .1 .0 .0; results-have = f .1 .1 .0 .1; room = f .1 .1 .1 })
-    (both (sized-gate g) (both (shape-gate g) (both (lengths-gate g inputs results) (work-gate g work))))
+    (both (size-and-sides-gate g) (both (shape-gate g) (both (lengths-gate g inputs results) (work-gate g work))))
 
 -- ---- the lengths of lists
 

@@ -1,7 +1,7 @@
 // The call `culvert` of document 02, "open a culvert under a road bank": elevations, a cell and a level to the four results of "the sheet
-// with that cell at that level". Questions 5 to 9 come first, 17 among them, then the culvert's own, 15 and 16. The elevations are loaded
-// as keys into the work buffer and opened there, and what is loaded is drained as in the one call, which asks 18: demand 3 holds with the
-// opened sheet as the input. The level goes by its key from the start, as elevations do.
+// with that cell at that level". Questions 5 to 9 come first, 17 and 20 among them, then the culvert's own, 15 and 16. The elevations are
+// loaded as keys into the work buffer and opened there, and what is loaded is drained as in the one call, which asks 18: demand 3 holds
+// with the opened sheet as the input. The level goes by its key from the start, as elevations do.
 use grid::Answer;
 use grid::Grid;
 ghost use mathlib.Core.Path.{_≡_};

@@ -1,6 +1,6 @@
 // The call `directions` of document 01: the code of every cell, from any sheet. The questions 5 to 9 come first, 17 and 20 among them, then
-// the levels. Where every data cell has one, the codes lead each to an outlet, so that 18 needs no look of its own. Where one has none, 18 is
-// asked, for the first data cell without a chain to an outlet, and then 10 is the no; both leave the codes as they were.
+// the levels. Where every data cell has one, the codes lead each to an outlet, so that 18 needs no look of its own. Where one has none, 18
+// is asked, for the first data cell without a chain to an outlet, and then 10 is the no; both leave the codes as they were.
 use grid::Answer;
 use grid::Grid;
 ghost use mathlib.Core.Path.{_≡_};

@@ -1,8 +1,8 @@
 // The one call of document 01: "One call works filled sheet, codes, counts and labels from elevations". The questions 5 to 9 first, 17
-// among them, then the steps in sequence over the one lent work buffer, each the proved piece of its own crate; the fill answers 18 before
-// a result is written. Its promise carries demand 3 about the four lists that it leaves: they are those of the definitions, and for these
-// demand 3 is a law (`guarantee_laws`, `proofs/OneCall`). `drain_loaded` is a step of its own: 18 and the four results of any sheet that
-// the keys in the work buffer spell, as of an opened one.
+// and 20 among them, then the steps in sequence over the one lent work buffer, each the proved piece of its own crate; the fill answers 18
+// before a result is written. Its promise carries demand 3 about the four lists that it leaves: they are those of the definitions, and for
+// these demand 3 is a law (`guarantee_laws`, `proofs/OneCall`). `drain_loaded` is a step of its own: 18 and the four results of any sheet
+// that the keys in the work buffer spell, as of an opened one.
 use grid::Answer;
 use grid::Grid;
 ghost use mathlib.Core.Path.{_≡_};

@@ -9,8 +9,10 @@ use Rattle.grid.specs.declared.Grid.{Grid}
 use Rattle.grid.specs.Sheet.{shapedGrid}
 use Rattle.grid.specs.Outlet.{isOutlet, outletCode, firstStranded}
 use Rattle.grid.specs.Fill.{filled}
-use Rattle.grid.specs.Directions.{squaredDistance, levels, directions, firstUnlevelled}
-use Rattle.grid.specs.Guarantee.{DrainedSheet}
+use Rattle.grid.specs.Directions.{squaredDistance, levels, flatSum, directions, firstUnlevelled}
+use Rattle.grid.specs.Routes as R
+use Rattle.grid.specs.Ponds as P
+use Rattle.grid.specs.Guarantee.{PathToOutlet, DrainedSheet}
 
 -- the same sheet with cells of another width and height
 abbrev pub reshaped : Grid → (width height : ℕ) → Grid
@@ -29,16 +31,24 @@ abbrev pub OldDistances : Type 0
 OldDistances = (g : Grid) (p : ℕ) → squaredDistance (reshaped g 1 1) p ≡ cond (eqb (p % 2) 0) 2 1
 
 -- ---- "Fill and the least-sheet property don't change": whatever the shape, the outlets and their codes, the cells without a chain to an
--- outlet, the filled sheet, the sheets among which it is the least, and the levels
+-- outlet, the filled sheet, the rival routes, the rival sheets, and the ponds; of codes all that a flat has, its levels and sums; and what
+-- is worked out of given codes
 pub record SameButCodes (g : Grid) (width height : ℕ) (e : List ℤ) : Type 0 where
   pub outlets : (c : ℕ) → isOutlet (reshaped g width height) e c ≡ isOutlet g e c
   pub outlet-codes : (c : ℕ) → outletCode (reshaped g width height) e c ≡ outletCode g e c
   pub eighteen : firstStranded (reshaped g width height) e ≡ firstStranded g e
   pub fill : filled (reshaped g width height) e ≡ filled g e
+  pub paths : (c : ℕ) (l : List ℕ) → PathToOutlet (reshaped g width height) e c l → PathToOutlet g e c l
+  pub paths-back : (c : ℕ) (l : List ℕ) → PathToOutlet g e c l → PathToOutlet (reshaped g width height) e c l
   pub drained : (f : List ℤ) → DrainedSheet (reshaped g width height) e f → DrainedSheet g e f
   pub drained-back : (f : List ℤ) → DrainedSheet g e f → DrainedSheet (reshaped g width height) e f
+  pub ponds : P.ponds (reshaped g width height) e ≡ P.ponds g e
+  pub pond-count : P.pondCount (reshaped g width height) e ≡ P.pondCount g e
   pub flats : levels (reshaped g width height) e ≡ levels g e
+  pub flat-sums : (l : List ℕ) (c : ℕ) → flatSum (reshaped g width height) e l c ≡ flatSum g e l c
   pub ten : firstUnlevelled (reshaped g width height) e ≡ firstUnlevelled g e
+  pub counts : (codes : List ℕ) → R.counts (reshaped g width height) codes ≡ R.counts g codes
+  pub labels : (codes : List ℕ) → R.labels (reshaped g width height) codes ≡ R.labels g codes
 
 abbrev pub AnyShape : Type 0
 AnyShape = (g : Grid) (width height : ℕ) (e : List ℤ) → SameButCodes g width height e

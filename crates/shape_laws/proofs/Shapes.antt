@@ -1,21 +1,23 @@
 -- Outlets, fill and levels read rows, columns and closed sides alone; of a code only the sum of the largest drops goes by the shape.
-use mathlib.Core.Path.{_≡_, refl, sym, _∙_, ap}
+use mathlib.Core.Path.{_≡_, refl, sym, _∙_, ap, ap₂, fun-ext}
 use mathlib.Core.Bool.{Bool, true, false, not, cond, _&&_}
 use mathlib.Core.List.{List, [], _∷_}
-use Prim.Native.Nat.{ℕ, zero, suc, _*_}
+use Prim.Native.Nat.{ℕ, zero, suc, _+_, _*_}
 use lib.Dec.{eqb, leb}
 use lib.ListN.{getD}
 use lib.IntN.{ℤ}
 use borrow.Author.Tests.{leb-true}
 use Rattle.grid.specs.declared.Grid.{Grid}
-use Rattle.grid.specs.Below.{table, firstBelow}
+use Rattle.grid.specs.Below.{table, countBelow, firstBelow}
 use Rattle.grid.specs.Sheet.{size, isData, neighbour, cellAt, Chain}
 use Rattle.grid.specs.Joined.{joinPass, joinPasses, joined}
 use Rattle.grid.specs.Outlet.{isOpen, leavesAt, isOutlet, outletCode, drained, firstStranded}
 use Rattle.grid.specs.Fill.{startAt, lowestTo, passAt, passes, filled}
 use Rattle.grid.specs.Directions.{dropTo, isEqual, hasDescent, isLevelZero, levelPassAt, levelPasses, levels, flatSum, choice, steepestSum}
 use Rattle.grid.specs.Directions.{directionAt, directions, firstUnlevelled}
-use Rattle.grid.specs.Guarantee.{DrainedSheet}
+use Rattle.grid.specs.Routes.{receiver, countAt, labelAt, counts, labels}
+use Rattle.grid.specs.Ponds.{isWet, pondOf, lowestCell, isLowest, ponds, pondCount}
+use Rattle.grid.specs.Guarantee.{PathToOutlet, DrainedSheet}
 use Rattle.grid.specs.Checks.{inShape}
 use Rattle.grid.specs.Shapes.{reshaped, SquareCells, AnyUnit, AnyShape}
 use Rattle.grid_laws.proofs.Tests.{and-left, and-right}
@@ -48,14 +50,17 @@ module _ (g : Grid) (width height : ℕ) (e : List ℤ) where
   unfolding outletCode leavesAt isOpen neighbour cellAt
   same-outlet-code c = refl
 
-  same-joined : (k : ℕ) → joinPasses other (isData e) (isOutlet other e) k ≡ joinPasses g (isData e) (isOutlet g e) k
-  unfolding joinPasses joinPass isOutlet leavesAt isOpen neighbour cellAt
-  same-joined zero = refl
-  same-joined (suc k) = ap (λ (l : List Bool). table (size g) (joinPass g (isData e) (isOutlet g e) l)) (same-joined k)
+  same-join-passes : (member first : ℕ → Bool) (k : ℕ) → joinPasses other member first k ≡ joinPasses g member first k
+  unfolding joinPasses joinPass neighbour cellAt
+  same-join-passes member first zero = refl
+  same-join-passes member first (suc k) =
+      ap (λ (l : List Bool). table (size g) (joinPass g member first l)) (same-join-passes member first k)
 
   same-stranded : firstStranded other e ≡ firstStranded g e
-  unfolding firstStranded drained joined
-  same-stranded = ap (λ (l : List Bool). firstBelow (size g) (λ c. isData e c && not (getD l c false))) (same-joined (size g))
+  unfolding firstStranded drained joined isOutlet leavesAt isOpen neighbour cellAt
+  same-stranded =
+      ap (λ (l : List Bool). firstBelow (size g) (λ c. isData e c && not (getD l c false)))
+      (same-join-passes (isData e) (isOutlet g e) (size g))
 
   same-passes : (k : ℕ) → passes other e k ≡ passes g e k
   unfolding passes passAt lowestTo startAt isOutlet leavesAt isOpen neighbour cellAt
@@ -79,52 +84,80 @@ module _ (g : Grid) (width height : ℕ) (e : List ℤ) where
   unfolding firstUnlevelled
   same-unlevelled = ap (λ (l : List ℕ). firstBelow (size g) (λ c. isData e c && eqb (getD l c 0) 0)) same-levels
 
-  -- chains and paths
+  same-pond-of : pondOf other e ≡ pondOf g e
+  unfolding pondOf joined
+  same-pond-of = fun-ext (λ f. fun-ext (λ c. same-join-passes (isWet e f) (eqb c) (size g)))
+
+  same-ponds : ponds other e ≡ ponds g e
+  unfolding ponds lowestCell isLowest
+  same-ponds =
+      ap₂ (λ (f : List ℤ) (pond : List ℤ → ℕ → List Bool).
+      table (size g) (λ c. cond (isWet e f c) (countBelow (firstBelow (size g) (λ d. getD (pond f c) d false))
+      (λ x. eqb (firstBelow (size g) (λ d. getD (pond f x) d false)) x) + 1) 0))
+      same-fill same-pond-of
+
+  same-pond-count : pondCount other e ≡ pondCount g e
+  unfolding pondCount lowestCell isLowest
+  same-pond-count =
+      ap₂ (λ (f : List ℤ) (pond : List ℤ → ℕ → List Bool).
+      countBelow (size g) (λ x. eqb (firstBelow (size g) (λ d. getD (pond f x) d false)) x))
+      same-fill same-pond-of
+
+  -- chains, rival routes and rival sheets
   chain-to : (l : List ℕ) → Chain other e l → Chain g e l
   unfolding neighbour cellAt
   chain-to [] h = h
   chain-to (c ∷ []) h = h
   chain-to (c ∷ d ∷ l) h = (h .0, h .1, chain-to (d ∷ l) (h .2))
 
-  chain-from : (l : List ℕ) → Chain g e l → Chain other e l
-  unfolding neighbour cellAt
-  chain-from [] h = h
-  chain-from (c ∷ []) h = h
-  chain-from (c ∷ d ∷ l) h = (h .0, h .1, chain-from (d ∷ l) (h .2))
+  path-to : (c : ℕ) (l : List ℕ) → PathToOutlet other e c l → PathToOutlet g e c l
+  unfolding isOutlet leavesAt isOpen neighbour cellAt
+  path-to c l p = record { starts = p .starts; chain = chain-to l (p .chain); outlet = p .outlet }
 
   drained-to : (f : List ℤ) → DrainedSheet other e f → DrainedSheet g e f
   unfolding isOutlet leavesAt isOpen neighbour cellAt
-  drained-to f D = record {
-    cells = D .cells;
-    voids = D .voids;
-    outlets = D .outlets;
-    above = D .above;
-    drains = λ c d. let w = D .drains c d in
-        (w .0, record { starts = w .1 .starts; chain = chain-to (w .0) (w .1 .chain); outlet = w .1 .outlet }, w .2);
-  }
+  drained-to f D =
+      record {
+        cells = D .cells;
+        voids = D .voids;
+        outlets = D .outlets;
+        above = D .above;
+        drains = λ c d. let w = D .drains c d in (w .0, path-to c (w .0) (w .1), w .2);
+      }
 
-  drained-from : (f : List ℤ) → DrainedSheet g e f → DrainedSheet other e f
-  unfolding isOutlet leavesAt isOpen neighbour cellAt
-  drained-from f D = record {
-    cells = D .cells;
-    voids = D .voids;
-    outlets = D .outlets;
-    above = D .above;
-    drains = λ c d. let w = D .drains c d in
-        (w .0, record { starts = w .1 .starts; chain = chain-from (w .0) (w .1 .chain); outlet = w .1 .outlet }, w .2);
-  }
+  same-flat-sum : (l : List ℕ) (c : ℕ) → flatSum other e l c ≡ flatSum g e l c
+  unfolding flatSum isEqual neighbour cellAt
+  same-flat-sum l c = refl
 
+module _ (g : Grid) (width height : ℕ) (codes : List ℕ) where
+  same-counts : counts (reshaped g width height) codes ≡ counts g codes
+  unfolding counts countAt receiver neighbour cellAt
+  same-counts = refl
+
+  same-labels : labels (reshaped g width height) codes ≡ labels g codes
+  unfolding labels labelAt receiver neighbour cellAt
+  same-labels = refl
+
+-- back goes by the shape that there was
 pub any-shape : AnyShape
-any-shape g width height e = record {
-  outlets = same-outlet g width height e;
-  outlet-codes = same-outlet-code g width height e;
-  eighteen = same-stranded g width height e;
-  fill = same-fill g width height e;
-  drained = drained-to g width height e;
-  drained-back = drained-from g width height e;
-  flats = same-levels g width height e;
-  ten = same-unlevelled g width height e;
-}
+any-shape g width height e =
+    record {
+      outlets = same-outlet g width height e;
+      outlet-codes = same-outlet-code g width height e;
+      eighteen = same-stranded g width height e;
+      fill = same-fill g width height e;
+      paths = path-to g width height e;
+      paths-back = path-to (reshaped g width height) (g .width) (g .height) e;
+      drained = drained-to g width height e;
+      drained-back = drained-to (reshaped g width height) (g .width) (g .height) e;
+      ponds = same-ponds g width height e;
+      pond-count = same-pond-count g width height e;
+      flats = same-levels g width height e;
+      flat-sums = same-flat-sum g width height e;
+      ten = same-unlevelled g width height e;
+      counts = same-counts g width height;
+      labels = same-labels g width height;
+    }
 
 -- codes with the same sums
 module _ (g : Grid) (width height : ℕ) (e : List ℤ)

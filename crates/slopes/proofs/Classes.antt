@@ -160,7 +160,8 @@ module _ (D : ℕ → ℕ) (own : ℕ) (l : List ℕ) (K : ℕ) (class low far :
         back : (leading K drop far (class q) && eqb (getD l q 0) (low (class q))) ≡ true → unbeaten D own l q ≡ true
         back t =
             let lead = and-left (leading K drop far (class q)) (eqb (getD l q 0) (low (class q))) t in
-            let here = eqb-true (getD l q 0) (low (class q)) (and-right (leading K drop far (class q)) (eqb (getD l q 0) (low (class q))) t) in
+            let same = and-right (leading K drop far (class q)) (eqb (getD l q 0) (low (class q))) t in
+            let here = eqb-true (getD l q 0) (low (class q)) same in
             let above = ltb-true 0 (drop (class q)) (and-left (ltb 0 (drop (class q))) (not (anyBelow K (under (class q)))) lead) in
             let none =
             no-of-any K (under (class q))

@@ -31,8 +31,7 @@ use Rattle.cells.proofs.Codes.{leaves-key}
 use Rattle.slopes.specs.Steepest.{keysOf, keyOr, edgeKeys, distanceOf, squareAt, unbeaten, steepestIn, anyVoid, markedIn}
 use Rattle.slopes.specs.Steepest.{innerSum}
 
--- the definition of the larger weighted drop, for drops that are not negative, is a comparison of products: what the function `beats`
--- works out
+-- the definition of the larger weighted drop, for drops that are not negative, is a comparison of products, as the functions make it
 pub beats-products : (g : Grid) (a b q p : ℕ) →
     beats g (pos a) q (pos b) p ≡ ltb (b * b * squaredDistance g q) (a * a * squaredDistance g p)
 unfolding beats
@@ -232,7 +231,9 @@ module _ (g : Grid) (e : List ℤ) (c : ℕ) (known : KnownTo g e c 8) where
     marked-is = ⊎-elim near clear (test (anyVoid (keyOf (at e c)) l))
       where
         near : anyVoid (keyOf (at e c)) l ≡ true → markedIn across along (keyOf (at e c)) l ≡ innerSum g e c
-        near t = cond-true 256 (steepestIn across along (keyOf (at e c)) l) t ∙ sym (cond-false (steepestSum g e c) 256 (void-near ∙ ap not t))
+        near t =
+            cond-true 256 (steepestIn across along (keyOf (at e c)) l) t
+            ∙ sym (cond-false (steepestSum g e c) 256 (void-near ∙ ap not t))
 
         no-void : (q : ℕ) → anyVoid (keyOf (at e c)) l ≡ false → q < 8 → key q ≡ 0 → ⊥
         no-void q t h z =

@@ -104,8 +104,8 @@ cornerCodes l low = membersOf low (getD l 0 0) (getD l 2 0) (getD l 4 0) (getD l
 abbrev pub leadsOf : (drop own other : ℕ) → Bool
 leadsOf drop own other = ltb 0 drop && leb other own
 
-abbrev pub leadsBothOf : (drop first other second third : ℕ) → Bool
-leadsBothOf drop first other second third = leadsOf drop first other && leb third second
+abbrev pub leadsBothOf : (drop own other again third : ℕ) → Bool
+leadsBothOf drop own other again third = leadsOf drop own other && leb third again
 
 -- square cells: the codes of the larger of the drops a, at sides, and b, at corners, or of both
 unfoldable pub largerOf : (a sides b corners : ℕ) → ℕ

@@ -360,11 +360,11 @@ fn leads(drop: u16, own: u64, other: u64) -> bool
     drop > 0 && own >= other
 }
 
-// The same for two others.
-fn leads_both(drop: u16, first: u64, other: u64, second: u64, third: u64) -> bool
-    ensures { λ r. ⌜ r ≡ leadsBothOf drop first other second third ⌝ }
+// The same for two others: `again` is the drop's own product beside the third.
+fn leads_both(drop: u16, own: u64, other: u64, again: u64, third: u64) -> bool
+    ensures { λ r. ⌜ r ≡ leadsBothOf drop own other again third ⌝ }
 {
-    leads(drop, first, other) && second >= third
+    leads(drop, own, other) && again >= third
 }
 
 // For square cells, of the codes of the lowest sides, with a drop `a`, and those of the lowest corners, with a drop `b`: those of the
@@ -621,7 +621,7 @@ fn oblong_sums(
     }
 }
 
-// The same for the shape at hand: "Square cells give the old codes at any width", so their width is not looked at.
+// The same for the shape at hand: "Square cells give the old codes at any width", so that of theirs the width does not matter.
 pub fn row_sums(
     g: Grid,
     offsets: &[usize; 8],

@@ -74,8 +74,8 @@ pub extern "C" fn tervuola_directions(
     codes: &mut [u8],
     work: &mut [u32],
 ) -> Answer
-    ensures { λ r. ⌜ DirectionsPromise (shapedGrid rows cols sides width height) (now (elevations .entry)) (now (codes .entry)) (now (codes .exit))
-        (now (work .entry)) (now (work .exit)) r ⌝ }
+    ensures { λ r. ⌜ DirectionsPromise (shapedGrid rows cols sides width height) (now (elevations .entry)) (now (codes .entry))
+        (now (codes .exit)) (now (work .entry)) (now (work .exit)) r ⌝ }
 {
     let g = Grid {
         rows: rows as usize,
@@ -146,8 +146,8 @@ pub extern "C" fn tervuola_drain(
     labels: &mut [u32],
     work: &mut [u32],
 ) -> Answer
-    ensures { λ r. ⌜ DrainPromise (shapedGrid rows cols sides width height) (now (elevations .entry)) (now (filled .entry)) (now (filled .exit))
-        (now (codes .entry)) (now (codes .exit)) (now (counts .entry)) (now (counts .exit)) (now (labels .entry)) (now (labels .exit))
+    ensures { λ r. ⌜ DrainPromise (shapedGrid rows cols sides width height) (now (elevations .entry)) (now (filled .entry))
+        (now (filled .exit)) (now (codes .entry)) (now (codes .exit)) (now (counts .entry)) (now (counts .exit)) (now (labels .entry)) (now (labels .exit))
         (now (work .entry)) (now (work .exit)) r ⌝ }
 {
     let g = Grid {

@@ -58,6 +58,7 @@ inner-words-requires c κs =
     let s = c .before .before .before .before .before .before in
     let wide = s .pre .1 .1 .1 .1 .0 .2 in
     let long = s .pre .1 .1 .0 in
+    let late = s .pre .1 .1 .1 .1 .1 in
     let same = sums .kept .1 .1 .1 .1 .1 .0 in (
       s .pre .0,
       (
@@ -66,7 +67,10 @@ inner-words-requires c κs =
           omega arith,
           (
             s .pre .1 .1 .1 .0,
-            ((omega arith, omega (arith, room s)), ((λ i h. sums .ensures .before i h ∙ s .pre .1 .1 .1 .1 .1 .0 i h), (sums .ensures .sums, s .pre .1 .1 .1 .1 .1 .1 .1))),
+            (
+              (omega arith, omega (arith, room s)),
+              ((λ i h. sums .ensures .before i h ∙ late .0 i h), (sums .ensures .sums, late .1 .1)),
+            ),
           ),
         ),
       ),
@@ -87,7 +91,8 @@ edge-words-requires c κs =
     let long = s .pre .1 .1 .0 in
     let same = inner .kept .1 .1 .1 .1 .1 .0 in
     let same₀ = summed .row-sums .kept .1 .1 .1 .1 .1 .0 in
-    (s .pre .0, (s .pre .1 .0, (omega arith, (s .pre .1 .1 .1 .0, ((omega arith, omega (arith, room s)), (inner .ensures, s .pre .1 .1 .1 .1 .1 .1 .1))))))
+    let shaped = s .pre .1 .1 .1 .1 .1 .1 .1 in
+    (s .pre .0, (s .pre .1 .0, (omega arith, (s .pre .1 .1 .1 .0, ((omega arith, omega (arith, room s)), (inner .ensures, shaped))))))
 
 same-length : tie.Need-same-length
 same-length c = search needs

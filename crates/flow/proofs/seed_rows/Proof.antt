@@ -36,7 +36,10 @@ edge-words-requires c κs =
         s .pre .1 .0,
         (
           s .pre .1 .1 .0,
-          (s .pre .1 .1 .1 .0, ((omega arith, omega (arith, three s)), ((λ i h. let z : ⊥ = omega arith in absurd z), s .pre .1 .1 .1 .1 .1 .1))),
+          (
+            s .pre .1 .1 .1 .0,
+            ((omega arith, omega (arith, three s)), ((λ i h. let z : ⊥ = omega arith in absurd z), s .pre .1 .1 .1 .1 .1 .1)),
+          ),
         ),
       ),
     )
@@ -129,9 +132,10 @@ edge-words-requires-2 c κs =
     let at = c .before .before in
     let s = start at in
     let len = s .pre .0 in
+    let shaped = s .pre .1 .1 .1 .1 .1 .1 in
     let wide = s .pre .1 .1 .1 .1 .0 .1 in (
       len,
-      (s .pre .1 .0, (long-at at, (s .pre .1 .1 .1 .0, ((omega (arith, last-row at), omega arith), (at .loop .inv .3, s .pre .1 .1 .1 .1 .1 .1))))),
+      (s .pre .1 .0, (long-at at, (s .pre .1 .1 .1 .0, ((omega (arith, last-row at), omega arith), (at .loop .inv .3, shaped))))),
     )
 
 same-length : tie.Need-same-length Inv-loop μ-loop

@@ -1,3 +1,4 @@
+-- Two products, two comparisons by them, and the codes of the one that leads.
 use mathlib.Core.Path.{_∙_, ap₂}
 use Prim.Native.Nat.{_+_}
 use native.Mathlib.Omega.{arith}

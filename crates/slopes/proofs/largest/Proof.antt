@@ -1,3 +1,4 @@
+-- Six products, three comparisons by them, and the codes of those that lead, of which no sum is above 255.
 use mathlib.Core.Path.{_∙_, ap₂}
 use Prim.Native.Nat.{_+_}
 use native.Mathlib.Omega.{arith}
@@ -84,8 +85,8 @@ returns c =
     let s = w1 .before .args in
     ap₂ _+_ (ap₂ _+_ (p1 .pick .ensures) (p2 .pick2 .ensures)) (c .pick3 .ensures)
     ∙ largest-is (s .w) (s .h) (s .d) (s .a) (s .across) (s .b) (s .along) (s .c) (s .corners) (w1 .weight .ensures)
-    (w2 .weight2 .ensures) (w3 .weight3 .ensures) (w4 .weight4 .ensures) (w5 .weight5 .ensures) (w6 .weight6 .ensures) (l1 .leads-both .ensures)
-    (p2 .before .leads-both2 .ensures) (c .before .leads-both3 .ensures)
+    (w2 .weight2 .ensures) (w3 .weight3 .ensures) (w4 .weight4 .ensures) (w5 .weight5 .ensures) (w6 .weight6 .ensures)
+    (l1 .leads-both .ensures) (p2 .before .leads-both2 .ensures) (c .before .leads-both3 .ensures)
 
 pub largest-spec : {M : Type 1} → statement M
 largest-spec =

@@ -1,3 +1,4 @@
+-- As for square cells, with the sums of any shape.
 use Prim.Native.Nat.{_-_, _<_}
 use native.Mathlib.Omega.{arith}
 use lib.ListN.{length}

@@ -1,3 +1,4 @@
+-- One cell after the other: those from `from` to the cell at hand have their sums, and those before `from` what they had.
 use Prim.Native.Nat.{_-_, _<_}
 use native.Mathlib.Omega.{arith}
 use lib.ListN.{length}

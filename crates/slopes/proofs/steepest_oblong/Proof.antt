@@ -1,3 +1,5 @@
+-- Squares of at most 1,000 fit, and so does their sum; the rest is the law of three classes at the squared width, the squared height and
+-- the sum of both.
 use Prim.Native.Nat.{_*_}
 use native.Mathlib.Omega.{arith}
 use Rattle.slopes.proofs.Products.{side-small, side-above}
