@@ -8,8 +8,9 @@
  * starts. The baseline's fill needs its outlets and its counts and labels need its ways, so these count with the steps that use
  * them: outlets with the fill, ways with the counts and with the labels. The baseline lists no ponds, opens no culvert and closes no
  * side: those lines have the library's own fill, and its own one call, in the baseline's place. The culvert lies at the elevation of
- * its cell, so that its results are those of the one call. The line "closed" is the one call with the south side alone open; of its
- * results no more is looked at than that nothing is filled lower than with every side open.
+ * its cell, so that its results are those of the one call. The line "oblong" is the directions call with cells of 3 by 4 beside the same
+ * with square ones, whose codes must be those of any square cells. The line "closed" is the one call with the south side alone open; of
+ * its results no more is looked at than that nothing is filled lower than with every side open.
  */
 #define main baseline_main
 #include "baseline.c"

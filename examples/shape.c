@@ -23,7 +23,7 @@ static uint32_t side_of(const char *text)
 {
     char *end = NULL;
     unsigned long k = strtoul(text, &end, 10);
-    return end == text || *end || *text == '-' || k > TERVUOLA_MAX_CELL ? 0 : (uint32_t)k;
+    return end == text || *end || *text == '-' || k > TERVUOLA_MAX_CELL_SIDE ? 0 : (uint32_t)k;
 }
 
 int main(int argc, char **argv)

@@ -1,12 +1,13 @@
 /*
  * tile - the drainage of one elevation tile.
  *
- *   tile INPUT OUTPUT [THRESHOLD]
+ *   tile INPUT OUTPUT [THRESHOLD [WIDTH HEIGHT]]
  *
  * INPUT is an SRTM tile (.hgt, big-endian, 1201 or 3601 square), a raw raster (.bil with its .hdr beside it, 16 bits) or an
  * ESRI ASCII grid (.asc). Writes OUTPUT.filled.bil, .codes.bil, .counts.bil and .labels.bil, each with its .hdr, and OUTPUT.ppm:
  * shaded relief in the colours of the basins, with streams where at least THRESHOLD (default 200) other cells drain through.
- * Cells are taken as square, also where the file says otherwise: examples/shape.c shows how to give a shape.
+ * WIDTH, from west to east, and HEIGHT, from north to south, are those of a cell, whole numbers from 1 to 1,000 in any one unit; without
+ * them cells are taken as square, whatever the file says of them. One of an SRTM tile at 60 degrees north is 1 by 2.
  * Exit status: 0, 1 where the library refuses the sheet, 2 for a wrong call or a file that cannot be read or written.
  */
 #include "tervuola.h"
@@ -216,13 +217,18 @@ static void write_picture(const char *output, const struct tile *t, const int16_
 
 int main(int argc, char **argv)
 {
-    if (argc < 3 || argc > 4) {
-        fprintf(stderr, "usage: tile INPUT.hgt|.bil|.asc OUTPUT [THRESHOLD]\n");
+    if (argc < 3 || argc == 5 || argc > 6) {
+        fprintf(stderr, "usage: tile INPUT.hgt|.bil|.asc OUTPUT [THRESHOLD [WIDTH HEIGHT]]\n");
         return 2;
     }
     long threshold = argc > 3 ? atol(argv[3]) : 200;
     if (threshold < 1) {
         fprintf(stderr, "tile: the threshold is a number from 1 on\n");
+        return 2;
+    }
+    long width = argc > 5 ? atol(argv[4]) : 1, height = argc > 5 ? atol(argv[5]) : 1;
+    if (width < 1 || width > TERVUOLA_MAX_CELL_SIDE || height < 1 || height > TERVUOLA_MAX_CELL_SIDE) {
+        fprintf(stderr, "tile: %s\n", tervuola_text(TERVUOLA_BAD_CELL_SHAPE));
         return 2;
     }
     struct tile t = { 0, 0, NULL, "" };
@@ -236,7 +242,8 @@ int main(int argc, char **argv)
     uint8_t *codes = room(n, 1);
     uint32_t *counts = room(n, 4), *labels = room(n, 4), *work = room(work_len, 4);
     fprintf(stderr, "tile: working out %u by %u cells\n", (unsigned)t.rows, (unsigned)t.cols);
-    tervuola_answer a = tervuola_drain(t.rows, t.cols, 0, 1, 1, t.elevations, n, filled, n, codes, n, counts, n, labels, n, work, work_len);
+    tervuola_answer a = tervuola_drain(t.rows, t.cols, 0, (uint32_t)width, (uint32_t)height, t.elevations, n, filled, n, codes, n, counts, n,
+                                       labels, n, work, work_len);
     if (a.number != TERVUOLA_OK) {
         fprintf(stderr, "tile: refused with %u: %s (place %u)\n", (unsigned)a.number, tervuola_text(a.number), (unsigned)a.place);
         return 1;

@@ -75,7 +75,7 @@
 #define TERVUOLA_MAX_SIDE 4000
 
 /* The largest width, and the largest height, of a cell. */
-#define TERVUOLA_MAX_CELL 1000
+#define TERVUOLA_MAX_CELL_SIDE 1000
 
 /* The text formats: at most this many bytes, and this many cells. */
 #define TERVUOLA_TEXT_BYTES 11529

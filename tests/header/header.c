@@ -63,7 +63,7 @@ int main(void)
     }
     EXPECT(strstr(tervuola_text(14), "pairs") && strstr(tervuola_text(14), "ponds"));
     EXPECT(TERVUOLA_BAD_CELL == 15 && TERVUOLA_BAD_LEVEL == 16 && TERVUOLA_BAD_SIDES == 17 && TERVUOLA_NO_OUTLET == 18);
-    EXPECT(TERVUOLA_BAD_LIST == 19 && TERVUOLA_BAD_CELL_SHAPE == 20 && TERVUOLA_MAX_CELL == 1000);
+    EXPECT(TERVUOLA_BAD_LIST == 19 && TERVUOLA_BAD_CELL_SHAPE == 20 && TERVUOLA_MAX_CELL_SIDE == 1000);
     EXPECT(TERVUOLA_CLOSED_WEST == 1 && TERVUOLA_CLOSED_EAST == 2 && TERVUOLA_CLOSED_NORTH == 4 && TERVUOLA_CLOSED_SOUTH == 8);
     EXPECT(strcmp(tervuola_text(21), "unknown number") == 0);
     /* a place in a list and a part of one are of the machine's size; the part's pointer, of an empty list too */
