@@ -7,7 +7,7 @@
  * ESRI ASCII grid (.asc). Writes OUTPUT.filled.bil, .codes.bil, .counts.bil and .labels.bil, each with its .hdr, and OUTPUT.ppm:
  * shaded relief in the colours of the basins, with streams where at least THRESHOLD (default 200) other cells drain through.
  * WIDTH, from west to east, and HEIGHT, from north to south, are those of a cell, whole numbers from 1 to 1,000 in any one unit; without
- * them cells are taken as square, whatever the file says of them. One of an SRTM tile at 60 degrees north is 1 by 2.
+ * them cells are taken as square, whatever the file says of them. A cell of an SRTM tile at 60 degrees north is 1 by 2.
  * Exit status: 0, 1 where the library refuses the sheet, 2 for a wrong call or a file that cannot be read or written.
  */
 #include "tervuola.h"
@@ -28,6 +28,14 @@ static void die(const char *path, const char *why)
 {
     fprintf(stderr, "tile: %s: %s\n", path, why);
     exit(2);
+}
+
+/* a whole number from 1 to most, or 0 */
+static uint32_t whole(const char *text, unsigned long most)
+{
+    char *end = NULL;
+    unsigned long k = isdigit((unsigned char)*text) ? strtoul(text, &end, 10) : 0;
+    return end && !*end && k <= most ? (uint32_t)k : 0;
 }
 
 static void *room(size_t n, size_t size)
@@ -221,13 +229,13 @@ int main(int argc, char **argv)
         fprintf(stderr, "usage: tile INPUT.hgt|.bil|.asc OUTPUT [THRESHOLD [WIDTH HEIGHT]]\n");
         return 2;
     }
-    long threshold = argc > 3 ? atol(argv[3]) : 200;
-    if (threshold < 1) {
+    uint32_t threshold = argc > 3 ? whole(argv[3], UINT32_MAX) : 200;
+    if (threshold == 0) {
         fprintf(stderr, "tile: the threshold is a number from 1 on\n");
         return 2;
     }
-    long width = argc > 5 ? atol(argv[4]) : 1, height = argc > 5 ? atol(argv[5]) : 1;
-    if (width < 1 || width > TERVUOLA_MAX_CELL_SIDE || height < 1 || height > TERVUOLA_MAX_CELL_SIDE) {
+    uint32_t width = argc > 5 ? whole(argv[4], TERVUOLA_MAX_CELL_SIDE) : 1, height = argc > 5 ? whole(argv[5], TERVUOLA_MAX_CELL_SIDE) : 1;
+    if (width == 0 || height == 0) {
         fprintf(stderr, "tile: %s\n", tervuola_text(TERVUOLA_BAD_CELL_SHAPE));
         return 2;
     }
@@ -242,8 +250,8 @@ int main(int argc, char **argv)
     uint8_t *codes = room(n, 1);
     uint32_t *counts = room(n, 4), *labels = room(n, 4), *work = room(work_len, 4);
     fprintf(stderr, "tile: working out %u by %u cells\n", (unsigned)t.rows, (unsigned)t.cols);
-    tervuola_answer a = tervuola_drain(t.rows, t.cols, 0, (uint32_t)width, (uint32_t)height, t.elevations, n, filled, n, codes, n, counts, n,
-                                       labels, n, work, work_len);
+    tervuola_answer a = tervuola_drain(t.rows, t.cols, 0, width, height, t.elevations, n, filled, n, codes, n, counts, n, labels, n, work,
+                                       work_len);
     if (a.number != TERVUOLA_OK) {
         fprintf(stderr, "tile: refused with %u: %s (place %u)\n", (unsigned)a.number, tervuola_text(a.number), (unsigned)a.place);
         return 1;
@@ -253,7 +261,7 @@ int main(int argc, char **argv)
     write_bil(argv[2], "codes", &t, codes, 1, "UNSIGNEDINT");
     write_bil(argv[2], "counts", &t, counts, 4, "UNSIGNEDINT");
     write_bil(argv[2], "labels", &t, labels, 4, "UNSIGNEDINT");
-    write_picture(argv[2], &t, filled, counts, labels, (uint32_t)threshold);
+    write_picture(argv[2], &t, filled, counts, labels, threshold);
     fprintf(stderr, "tile: done\n");
     return 0;
 }

@@ -28,8 +28,8 @@
  * height, from north to south, whole numbers from 1 to 1,000 each. A drop is divided by the width for east and west, by the height
  * for north and south, and by the square root of the sum of their squares for corners. Only the ratio of the two counts: 30 by 60
  * is 1 by 2, and square cells of any width are 1 by 1 (SquareCells, AnyUnit). Where the largest drops so divided are exactly equal,
- * as 3 to the east, 4 to the north and 5 to the north-east are with cells of 3 by 4, a table decides. Fill and ponds do not depend on
- * the shape (AnyShape), and take none; nor do the calls that see codes only.
+ * as 3 to the east, 4 to the north and 5 to the north-east are with cells of 3 by 4, a table decides. All other calls take no shape:
+ * fill and ponds do not depend on it, nor does what is worked out of given codes (AnyShape; all three in Shapes.antt).
  *
  * Sheets. Rows and columns are each from 1 to 4,000. The cell in row r and column q, both from 0, has the number
  * r * cols + q, and stands at that place of each sheet. Elevations are signed 16-bit numbers, -32768 the void.
@@ -356,9 +356,9 @@ tervuola_dimensions tervuola_read(const uint8_t *text, size_t text_len,
 
 /*
  * Writes an elevation sheet as a text frame: upper-case digits and nothing optional, so that two sheets have equal text exactly
- * when rows, columns and all elevations are equal. Closed sides and the shape of cells are no part of the text. Reports the bytes written,
- * 9 + rows * (4 * cols + 1); bytes past them are untouched, and no zero byte ends them. tervuola_read gives back the sheet from
- * just these bytes (text_len: the count reported); a text that was read, written again, has its letters raised to upper case.
+ * when rows, columns and all elevations are equal. Closed sides and the shape of cells are no part of the text. Reports the bytes
+ * written, 9 + rows * (4 * cols + 1); bytes past them are untouched, and no zero byte ends them. tervuola_read gives back the sheet
+ * from just these bytes (text_len: the count reported); a text that was read, written again, has its letters raised to upper case.
  * elevations: rows * cols exactly, not all of a longer buffer that was read into. text: at least the bytes above, which a refusal
  * does not tell; TERVUOLA_TEXT_BYTES always suffice.
  * Numbers: 4 5 6 7 8 (text is too short). Promise: WritePromise; what is shown of texts: Writing.antt, RoundTrips.antt.

@@ -101,7 +101,7 @@ abbrev pub AllRoutesJoin : Type 0
 AllRoutesJoin = (g : Grid) (codes : List ℕ) → AcceptedCodes g codes → (a b : ℕ) → RoutesJoin g codes a b
 
 -- codes that the counts or the labels call accepts are such a sheet, and so are those that the one call works out, whichever sides are
--- closed: what sees codes only knows no sides. Every lent `&[i16]` meets the condition on elevations
+-- closed and whatever the shape of the cells: what sees codes only knows neither. Every lent `&[i16]` meets the condition on elevations
 abbrev pub CodesOfCalls : Type 0
 CodesOfCalls =
     ((g : Grid) (codes : List ℕ) (result work : ℕ) → T (isAccepted (codesCheck g codes result work)) → AcceptedCodes g codes)

@@ -22,7 +22,7 @@ WriteThenRead =
     (r ≡ record { number = 0; place = 0; rows = g .rows; cols = g .cols }) × (sheet₁ ≡ e ++ drop (size g) sheet₀)
 
 -- a call of read that is accepted, then a call of write on the rows, columns and elevations that it leaves, into a buffer with room for
--- the text; whichever sides are closed
+-- the text; whichever sides are closed and whatever the shape of the cells
 abbrev pub ReadThenWrite : Type 0
 ReadThenWrite =
     (text : List ℕ) (sheet₀ sheet₁ : List ℤ) (r : Dimensions) → ReadPromise text sheet₀ sheet₁ r → T (isAccepted (ofDimensions r)) →

@@ -31,8 +31,8 @@ abbrev pub OldDistances : Type 0
 OldDistances = (g : Grid) (p : ℕ) → squaredDistance (reshaped g 1 1) p ≡ cond (eqb (p % 2) 0) 2 1
 
 -- ---- "Fill and the least-sheet property don't change": whatever the shape, the outlets and their codes, the cells without a chain to an
--- outlet, the filled sheet, the rival routes, the rival sheets, and the ponds; of codes all that a flat has, its levels and sums; and what
--- is worked out of given codes
+-- outlet, the filled sheet, the rival routes, the rival sheets, and the ponds; of codes all that a flat has, its levels and sums; and the
+-- routes, counts, labels and watersheds of given codes
 pub record SameButCodes (g : Grid) (width height : ℕ) (e : List ℤ) : Type 0 where
   pub outlets : (c : ℕ) → isOutlet (reshaped g width height) e c ≡ isOutlet g e c
   pub outlet-codes : (c : ℕ) → outletCode (reshaped g width height) e c ≡ outletCode g e c
@@ -47,8 +47,10 @@ pub record SameButCodes (g : Grid) (width height : ℕ) (e : List ℤ) : Type 0 
   pub flats : levels (reshaped g width height) e ≡ levels g e
   pub flat-sums : (l : List ℕ) (c : ℕ) → flatSum (reshaped g width height) e l c ≡ flatSum g e l c
   pub ten : firstUnlevelled (reshaped g width height) e ≡ firstUnlevelled g e
+  pub routes : (codes : List ℕ) (c : ℕ) → R.route (reshaped g width height) codes c ≡ R.route g codes c
   pub counts : (codes : List ℕ) → R.counts (reshaped g width height) codes ≡ R.counts g codes
   pub labels : (codes : List ℕ) → R.labels (reshaped g width height) codes ≡ R.labels g codes
+  pub watersheds : (codes starts : List ℕ) → R.watersheds (reshaped g width height) codes starts ≡ R.watersheds g codes starts
 
 abbrev pub AnyShape : Type 0
 AnyShape = (g : Grid) (width height : ℕ) (e : List ℤ) → SameButCodes g width height e

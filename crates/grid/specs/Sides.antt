@@ -77,7 +77,8 @@ unfoldable pub baseUnlevelled : Grid → List ℤ → ℕ
 baseUnlevelled g e = let l : List ℕ = baseLevels g e in firstBelow (size g) (λ c. isData e c && eqb (getD l c 0) 0)
 
 -- with no side closed a sheet is document 01's: in each cell the same outlets and the same outlet's codes, so the same filled sheet, the
--- same codes, by drops over the distances of its own cells (`SquareCells` of Shapes), and question 10; and 18 is never answered by a no
+-- same codes, by drops over the distances of its own cells, which with square ones are document 01's (`SquareCells` and `OldDistances` of
+-- Shapes), and question 10; and 18 is never answered by a no
 pub record SameAsBase (g : Grid) (e : List ℤ) : Type 0 where
   pub outlets : (c : ℕ) → isOutlet g e c ≡ baseOutlet g e c
   pub outlet-codes : (c : ℕ) → outletCode g e c ≡ baseOutletCode g e c

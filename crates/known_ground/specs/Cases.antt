@@ -291,7 +291,7 @@ knownGround =
     ∷ numbers (codeAmid 3 4 4 4 5 ∷ codeAmid 3 4 3 5 5 ∷ codeAmid 3 4 3 4 6 ∷ codeAmid 3 4 2 3 4 ∷ []) (2 ∷ 128 ∷ 1 ∷ 1 ∷ [])
     -- width and height the other way round, and square cells of any width: east 3, north 4, north-east 5 go to the north
     ∷ numbers (codeAmid 4 3 3 4 5 ∷ codeAmid 1 1 3 4 5 ∷ codeAmid 7 7 3 4 5 ∷ codeAmid 1000 1000 3 4 5 ∷ []) (128 ∷ 128 ∷ 128 ∷ 128 ∷ [])
-    -- the extremes: 1,000 by 1 and 1 by 1,000, and the largest drops
+    -- the extremes: 1,000 by 1 and 1 by 1,000, and drops of 32,767
     ∷ numbers (codeAmid 1000 1 999 1 0 ∷ codeAmid 1000 1 1000 1 0 ∷ codeAmid 1000 1 1001 1 0 ∷ []) (128 ∷ 2 ∷ 2 ∷ [])
     ∷ numbers (codeAmid 1 1000 1 999 0 ∷ codeAmid 1 1000 1 1000 0 ∷ codeAmid 1 1000 1 1001 0 ∷ []) (2 ∷ 2 ∷ 128 ∷ [])
     ∷ numbers (codeAmid 1000 1 32767 32 0 ∷ codeAmid 1000 1 32767 33 0 ∷ codeAmid 1 1000 0 32766 32767 ∷ []) (2 ∷ 128 ∷ 1 ∷ [])
@@ -303,7 +303,7 @@ knownGround =
     ∷ numbers (shapeIn 15 1 0 12) (20 ∷ 0 ∷ [])
     ∷ numbers (shapeIn 0 1 1001 12) (20 ∷ 0 ∷ [])
     ∷ numbers (shapeIn 16 0 0 12) (17 ∷ 0 ∷ [])
-    ∷ numbers (numberAndPlace (directionsCheck (shapedGrid 3 4 0 1 0) cut 12 48)) (20 ∷ 0 ∷ [])
+    ∷ numbers (numberAndPlace (directionsCheck (shapedGrid 3 5 0 1 0) cut 12 48)) (20 ∷ 0 ∷ [])
     ∷ numbers (numberAndPlace (culvertCheck (shapedGrid 3 4 0 0 1) cut 12 (pos 9) 12 12 12 12 0)) (20 ∷ 0 ∷ [])
     ∷ numbers (numberAndPlace (fillCheck (shapedGrid 3 4 0 0 1001) cut 12 48)) (0 ∷ 0 ∷ [])
     -- a text: what is read from it, what is written, closed sides or not, and the same with its letters raised

@@ -15,7 +15,7 @@ use Rattle.grid.specs.Outlet.{isOpen, leavesAt, isOutlet, outletCode, drained, 
 use Rattle.grid.specs.Fill.{startAt, lowestTo, passAt, passes, filled}
 use Rattle.grid.specs.Directions.{dropTo, isEqual, hasDescent, isLevelZero, levelPassAt, levelPasses, levels, flatSum, choice, steepestSum}
 use Rattle.grid.specs.Directions.{directionAt, directions, firstUnlevelled}
-use Rattle.grid.specs.Routes.{receiver, countAt, labelAt, counts, labels}
+use Rattle.grid.specs.Routes.{receiver, route, countAt, labelAt, counts, labels, watersheds}
 use Rattle.grid.specs.Ponds.{isWet, pondOf, lowestCell, isLowest, ponds, pondCount}
 use Rattle.grid.specs.Guarantee.{PathToOutlet, DrainedSheet}
 use Rattle.grid.specs.Checks.{inShape}
@@ -130,6 +130,10 @@ module _ (g : Grid) (width height : ℕ) (e : List ℤ) where
   same-flat-sum l c = refl
 
 module _ (g : Grid) (width height : ℕ) (codes : List ℕ) where
+  same-route : (c : ℕ) → route (reshaped g width height) codes c ≡ route g codes c
+  unfolding receiver neighbour cellAt
+  same-route c = refl
+
   same-counts : counts (reshaped g width height) codes ≡ counts g codes
   unfolding counts countAt receiver neighbour cellAt
   same-counts = refl
@@ -137,6 +141,10 @@ module _ (g : Grid) (width height : ℕ) (codes : List ℕ) where
   same-labels : labels (reshaped g width height) codes ≡ labels g codes
   unfolding labels labelAt receiver neighbour cellAt
   same-labels = refl
+
+  same-watersheds : (starts : List ℕ) → watersheds (reshaped g width height) codes starts ≡ watersheds g codes starts
+  unfolding watersheds receiver neighbour cellAt
+  same-watersheds starts = refl
 
 -- back goes by the shape that there was
 pub any-shape : AnyShape
@@ -155,8 +163,10 @@ any-shape g width height e =
       flats = same-levels g width height e;
       flat-sums = same-flat-sum g width height e;
       ten = same-unlevelled g width height e;
+      routes = same-route g width height;
       counts = same-counts g width height;
       labels = same-labels g width height;
+      watersheds = same-watersheds g width height;
     }
 
 -- codes with the same sums

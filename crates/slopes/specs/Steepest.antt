@@ -107,7 +107,7 @@ leadsOf drop own other = ltb 0 drop && leb other own
 abbrev pub leadsBothOf : (drop own other again third : ℕ) → Bool
 leadsBothOf drop own other again third = leadsOf drop own other && leb third again
 
--- square cells: the codes of the larger of the drops a, at sides, and b, at corners, or of both
+-- square cells: the codes of the larger of the drops a, at sides, and b, at corners
 unfoldable pub largerOf : (a sides b corners : ℕ) → ℕ
 largerOf a sides b corners =
     cond (leadsOf a (a * a * 2) (b * b * 1)) sides 0 + cond (leadsOf b (b * b * 1) (a * a * 2)) corners 0

@@ -147,8 +147,8 @@ pub extern "C" fn tervuola_drain(
     work: &mut [u32],
 ) -> Answer
     ensures { λ r. ⌜ DrainPromise (shapedGrid rows cols sides width height) (now (elevations .entry)) (now (filled .entry))
-        (now (filled .exit)) (now (codes .entry)) (now (codes .exit)) (now (counts .entry)) (now (counts .exit)) (now (labels .entry)) (now (labels .exit))
-        (now (work .entry)) (now (work .exit)) r ⌝ }
+        (now (filled .exit)) (now (codes .entry)) (now (codes .exit)) (now (counts .entry)) (now (counts .exit)) (now (labels .entry))
+        (now (labels .exit)) (now (work .entry)) (now (work .exit)) r ⌝ }
 {
     let g = Grid {
         rows: rows as usize,
