@@ -16,7 +16,8 @@ ghost use Rattle.grid.specs.Directions.{directionAt, directions, flatSum, first
 ghost use Rattle.shape_laws.specs.Shaped.{Shaped};
 ghost use Rattle.cells.specs.Keys.{levelOf};
 ghost use Rattle.cells.specs.Steps.{Inner, Offsets};
-ghost use Rattle.slopes.specs.Steepest.{choices as choices', innerSum};
+ghost use Rattle.choice_table.specs.Choices.{choices as choices'};
+ghost use Rattle.slopes.specs.Steepest.{innerSum};
 ghost use Rattle.flow_laws.specs.Words.{wordLevel, levelsIn, firstWord, Seeded, Levelled};
 ghost use Rattle.flow.specs.Seeding.{WordsTo, SumsIn};
 ghost use Rattle.flow.specs.Coding.{NoneLacks, CodesTo};
@@ -38,7 +39,7 @@ fn edge_word(g: Grid, elevations: &[i16], table: &[u8; 256], cell: usize) -> u32
     if code != 0 {
         return code as u32;
     }
-    slopes::choose(table, slopes::edge_sum(g, elevations, cell) as usize) as u32
+    choice_table::choose(table, slopes::edge_sum(g, elevations, cell) as usize) as u32
 }
 
 // The word of a cell within the border from its sum, which is 256 for an outlet and a void.
@@ -52,7 +53,7 @@ fn inner_word(g: Grid, elevations: &[i16], table: &[u8; 256], cell: usize, sum: 
     ensures { λ r. ⌜ r ≡ firstWord g (now (elevations .entry)) cell ⌝ }
 {
     if sum < 256 {
-        return slopes::choose(table, sum as usize) as u32;
+        return choice_table::choose(table, sum as usize) as u32;
     }
     edge_word(g, elevations, table, cell)
 }
@@ -166,7 +167,7 @@ fn seed(g: Grid, offsets: &[usize; 8], elevations: &[i16], work: &mut [u32])
     requires { ⌜ Shaped g ⌝ }
     ensures { λ r. ⌜ Seeded g (now (elevations .entry)) (now (work .exit)) ⌝ }
 {
-    let table = slopes::choices();
+    let table = choice_table::choices();
     if g.rows < 3 {
         edge_words(g, elevations, &table, 0, elevations.len(), work);
         return;
@@ -368,7 +369,7 @@ fn inner_code(
     }
     let k = cells::key(elevations[cell]);
     let low = lowest_below(word);
-    slopes::choose(
+    choice_table::choose(
         table,
         flat_sum_inner(g, offsets, elevations, work, cell, k, low, word),
     )
@@ -391,7 +392,7 @@ fn border_code(g: Grid, elevations: &[i16], table: &[u8; 256], work: &[u32], cel
     }
     let k = cells::key(elevations[cell]);
     let low = lowest_below(word);
-    slopes::choose(
+    choice_table::choose(
         table,
         flat_sum_border(g, elevations, work, cell, k, low, word),
     )
@@ -536,7 +537,7 @@ fn write_codes(g: Grid, offsets: &[usize; 8], elevations: &[i16], work: &[u32], 
     requires { ⌜ Offsets (g .cols) (now offsets) ⌝ }
     ensures { λ r. ⌜ now (codes .exit) ≡ table' (size g) (directionAt g (now (elevations .entry)) (levelsIn g (now (work .entry)))) ⌝ }
 {
-    let table = slopes::choices();
+    let table = choice_table::choices();
     if g.rows < 3 {
         border_codes(g, elevations, &table, work, 0, elevations.len(), codes);
         return;

@@ -1,4 +1,4 @@
--- The table of choices, and the codes of the largest weighted drop from the keys around a cell.
+-- The codes of the largest weighted drop from the keys around a cell.
 use mathlib.Core.Path.{_≡_}
 use mathlib.Core.Bool.{Bool, not, cond, _&&_, _||_}
 use mathlib.Core.List.{List}
@@ -10,12 +10,8 @@ use Rattle.grid.specs.declared.Grid.{Grid}
 use Rattle.grid.specs.Below.{table, anyBelow, sumBelow}
 use Rattle.grid.specs.Sheet.{at, isData, neighbour, codeAt}
 use Rattle.grid.specs.Outlet.{isOutlet}
-use Rattle.grid.specs.Directions.{steepestSum, choice}
+use Rattle.grid.specs.Directions.{steepestSum}
 use Rattle.cells.specs.Keys.{keyOf}
-
--- the choice for each sum of codes
-unfoldable pub choices : List ℕ
-choices = table 256 choice
 
 -- the keys around a cell, by position
 unfoldable pub keysOf : Grid → List ℤ → ℕ → List ℕ

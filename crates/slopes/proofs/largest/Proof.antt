@@ -8,22 +8,22 @@ use Rattle.slopes.proofs.largest.Statement.{statement}
 use Rattle.slopes.proofs.largest.Tie as tie
 
 weight-requires : tie.Need-weight-requires
-weight-requires c κs = search needs
+weight-requires c κs = omega (arith, c .pre .0 .1)
 
 weight-requires-2 : tie.Need-weight-requires-2
-weight-requires-2 c κs = search needs
+weight-requires-2 c κs = omega (arith, c .before .pre .0 .0)
 
 weight-requires-3 : tie.Need-weight-requires-3
-weight-requires-3 c κs = search needs
+weight-requires-3 c κs = omega (arith, c .before .before .pre .0 .2)
 
 weight-requires-4 : tie.Need-weight-requires-4
-weight-requires-4 c κs = search needs
+weight-requires-4 c κs = omega (arith, c .before .before .before .pre .0 .0)
 
 weight-requires-5 : tie.Need-weight-requires-5
-weight-requires-5 c κs = search needs
+weight-requires-5 c κs = omega (arith, c .before .before .before .before .pre .0 .2)
 
 weight-requires-6 : tie.Need-weight-requires-6
-weight-requires-6 c κs = search needs
+weight-requires-6 c κs = omega (arith, c .before .before .before .before .before .pre .0 .1)
 
 leads-both-requires : tie.Need-leads-both-requires
 leads-both-requires c κs = search needs

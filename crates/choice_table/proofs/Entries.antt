@@ -7,8 +7,8 @@ use lib.Dec.{eqb, eqb→eq}
 use lib.ListN.{getD}
 use Rattle.grid.specs.Directions.{member, score, bestOf, choice}
 use Rattle.grid_laws.proofs.Below.{is-table, at-table}
-use Rattle.slopes.specs.Steepest.{choices}
-use Rattle.slopes.proofs.Table.{at-entry}
+use Rattle.choice_table.specs.Choices.{choices}
+use Rattle.choice_table.proofs.Table.{at-entry}
 
 unfoldable pub entries : List ℕ
 entries =

@@ -1,7 +1,7 @@
-use Rattle.slopes.proofs.Entries.{choice-at}
+use Rattle.choice_table.proofs.Entries.{choice-at}
 use borrow.Author.Needs.{needs}
-use Rattle.slopes.proofs.choose.Statement.{statement}
-use Rattle.slopes.proofs.choose.Tie as tie
+use Rattle.choice_table.proofs.choose.Statement.{statement}
+use Rattle.choice_table.proofs.choose.Tie as tie
 
 element-copy-out-result : tie.Need-element-copy-out-result
 element-copy-out-result c = search needs
