@@ -1,6 +1,6 @@
 /*
  * tervuola.h - drainage of an elevation sheet: fill, flow directions, flow accumulation counts, basins, ponds, culverts; streams
- * compared, as lists of cells; and small sheets read from text and written as text.
+ * compared, as lists of cells; routes traced for many crews in turn; and small sheets read from text and written as text.
  *
  * Every call is proved against the definitions in crates/grid/specs (docs/DEFINITIONS.md has them in words, docs/PROVED.md says
  * what is proved): for every input and every length of every buffer it gives the number, the place and every element of every
@@ -36,13 +36,13 @@
  *
  * Buffers. Each is a pointer and then its number of elements (not bytes). A pointer must be valid for that many elements
  * (a null pointer only with 0 elements), aligned for its type, and no result or work buffer may overlap another buffer of
- * the same call: that is the caller's part, and the only one. Any length and any content is allowed: what does not fit is
- * refused.
+ * the same call: that is the caller's part, and the only one. The crews' state, a pointer alone and never null, is such a result
+ * buffer. Any length and any content is allowed: what does not fit is refused.
  *
- * A refusal (number above 0) leaves every result buffer as it was; a number up to 9, and 17 and 20, leaves the work
- * buffer as it was too. Otherwise the work buffer's contents are free afterwards; tervuola_counts says more of its own.
+ * A refusal (number above 0) leaves every result buffer, and the crews' state, as it was; a number up to 9, and 17 and 20, leaves
+ * the work buffer as it was too. Otherwise the work buffer's contents are free afterwards; tervuola_counts says more of its own.
  *
- * The calls allocate nothing, keep no state, are reentrant and thread-safe, and use at most 512 KiB of stack.
+ * The calls allocate nothing, keep no state of their own, are reentrant and thread-safe, and use at most 512 KiB of stack.
  */
 #ifndef TERVUOLA_H
 #define TERVUOLA_H
@@ -51,7 +51,7 @@
 #include <stdint.h>
 
 #define TERVUOLA_VERSION_MAJOR 0
-#define TERVUOLA_VERSION_MINOR 8
+#define TERVUOLA_VERSION_MINOR 9
 #define TERVUOLA_VERSION_PATCH 0
 
 /* The void mark, and the eight direction codes. */
@@ -76,6 +76,9 @@
 
 /* The largest width, and the largest height, of a cell. */
 #define TERVUOLA_MAX_CELL_SIDE 1000
+
+/* The number of crews. */
+#define TERVUOLA_CREWS 32
 
 /* The text formats: at most this many bytes, and this many cells. */
 #define TERVUOLA_TEXT_BYTES 11529
@@ -112,7 +115,11 @@ enum tervuola_number {
     TERVUOLA_NO_OUTLET = 18,      /* a data cell has no chain of data cells to an outlet; place: the first such cell */
     TERVUOLA_BAD_LIST = 19,       /* a cell of a list lies outside the sheet, or is no neighbour of the one before it; place: the
                                      first such cell's position in its list, from 0 */
-    TERVUOLA_BAD_CELL_SHAPE = 20  /* a cell's width or height is not from 1 to 1,000 */
+    TERVUOLA_BAD_CELL_SHAPE = 20, /* a cell's width or height is not from 1 to 1,000 */
+    TERVUOLA_BAD_CREW = 21,       /* the crew is a number above 31 */
+    TERVUOLA_NOT_COLLECTED = 22,  /* the crew has a trace, finished or not, that it has not yet collected */
+    TERVUOLA_NO_ROUTE = 23        /* the cell handed in, or the one that an unfinished trace stands on, lies outside the sheet or has
+                                     code 0; place of a run: the lowest crew with such a trace */
 };
 
 typedef struct {
@@ -143,6 +150,30 @@ typedef struct {
     size_t at;
     size_t count;
 } tervuola_part;
+
+/*
+ * The traces of 32 crews, numbered 0 to 31. The state is the caller's: {0} begins, with no trace, crew 0 next and a total of 0; a copy
+ * goes on by itself, and calls at the same time must not share one. Every content is a state. Words 0 to 31 have for each crew 1 for a
+ * trace on its way, 2 for a finished one, and any other number for none (a caller may so give up a trace); 32 to 63 the cell that it
+ * stands on, in their low 32 bits; 64 the crew whose turn is next, by its remainder by 32; 65 the total.
+ */
+typedef struct {
+    uint64_t words[66];
+} tervuola_crews;
+
+/* What a collection says of the crew's trace. */
+enum tervuola_status {
+    TERVUOLA_NO_TRACE = 0, /* the crew has none */
+    TERVUOLA_WAITING = 1,  /* it is on its way */
+    TERVUOLA_FINISHED = 2  /* it was finished, and the crew is free again */
+};
+
+typedef struct {
+    uint32_t number;
+    uint32_t place;
+    uint32_t status; /* enum tervuola_status; 0 beside a refusal */
+    uint32_t cell;   /* the last cell of a finished trace, otherwise 0 */
+} tervuola_collected;
 
 /* The number of 32-bit elements that a work buffer needs, for rows and columns in range: a constant where they are constants. */
 #define TERVUOLA_WORK_SIZE(rows, cols) ((size_t)4 * (rows) * (cols))
@@ -178,6 +209,9 @@ static inline const char *tervuola_text(uint32_t number)
     case TERVUOLA_NO_OUTLET: return "a data cell has no chain to an outlet: its water cannot leave";
     case TERVUOLA_BAD_LIST: return "a cell of a list lies outside the sheet or is no neighbour of the one before it";
     case TERVUOLA_BAD_CELL_SHAPE: return "the width or height of a cell is not from 1 to 1000";
+    case TERVUOLA_BAD_CREW: return "the crew is not from 0 to 31";
+    case TERVUOLA_NOT_COLLECTED: return "the crew's trace is not yet collected";
+    case TERVUOLA_NO_ROUTE: return "a cell that is to be traced lies outside the sheet or has no direction code";
     default: return "unknown number";
     }
 }
@@ -344,6 +378,50 @@ tervuola_part tervuola_shared_ending(uint32_t rows, uint32_t cols,
 static inline const uint32_t *tervuola_part_of(const uint32_t *first, tervuola_part part)
 {
     return part.at == 0 ? first : first + part.at; /* a null pointer is not added to */
+}
+
+/*
+ * A crew hands in a cell, to collect later the outlet that it drains to: its trace stands on the cell and is on its way.
+ * codes: rows * cols. crew: 0 to 31, one without a trace. cell: one with a code above 0. crews: the state. work: at least
+ * 4 * rows * cols.
+ * Numbers: 5 6 7 9 11 12 21 22 23. Promise: HandInPromise. Linear in the number of cells.
+ */
+tervuola_answer tervuola_hand_in(uint32_t rows, uint32_t cols,
+                                 const uint8_t *codes, size_t codes_len,
+                                 uint32_t crew, uint32_t cell,
+                                 tervuola_crews *crews,
+                                 uint32_t *work, size_t work_len);
+
+/*
+ * Turns, which go round the crews by number and carry on where the last run stopped. A turn moves that crew's trace one cell down, or
+ * finishes it at its last cell; with no trace, or a finished one, it does nothing. The total grows by one for each turn that moves or
+ * finishes a trace, and stays at 2^64 - 1 once there. A trace whose route has r cells is finished within 32 * r turns of being handed
+ * in, if the traces began with none handed in and every hand-in and run since has lent the same sheet of codes. Another sheet may be
+ * lent: the traces go on from where they stand, and a run gets 23, and takes no turn, where one that is not finished stands off that
+ * sheet or on a cell with code 0.
+ * codes: rows * cols. turns: 0 to 65,535. crews: the state. work: at least 4 * rows * cols.
+ * Numbers: 5 6 7 9 11 12 23, also with 0 turns. Promise: RunPromise; what is shown of lists of calls: Operations.antt. 11 and 12 are
+ * linear in the number of cells, and a turn takes the same time on every sheet: a few long runs cost less than many short ones.
+ */
+tervuola_answer tervuola_run(uint32_t rows, uint32_t cols,
+                             const uint8_t *codes, size_t codes_len,
+                             uint16_t turns,
+                             tervuola_crews *crews,
+                             uint32_t *work, size_t work_len);
+
+/*
+ * A crew asks for its trace. A finished one is collected: its last cell is given, and the crew is free to hand in the next. For one
+ * on its way the status says that it is waiting, for none that there is no trace, both with number 0, and nothing changes.
+ * crew: 0 to 31. crews: the state.
+ * Numbers: 21. Promise: CollectPromise; where one sheet of codes was lent throughout, cell + 1 is the basin label of the cell that was
+ * handed in (CollectsOutlet in Operations.antt).
+ */
+tervuola_collected tervuola_collect(uint32_t crew, tervuola_crews *crews);
+
+/* The total: how many turns have moved or finished a trace. */
+static inline uint64_t tervuola_turns_worked(const tervuola_crews *crews)
+{
+    return crews->words[65];
 }
 
 /*

@@ -1,11 +1,13 @@
-// Every call of libtervuola.a against the second program as it is after request 7, on its sheets, on sheets of ponds, on sheets cut from
-// larger ones, under all closed sides, with cells of many shapes, on drops that tie by them, on random codes, on cells and levels that are and are not there, on walks, routes and lists of any numbers,
-// on damaged texts, and on wrong lengths. What is written is read again, and what is read is written again.
+// Every call of libtervuola.a against the second program as it is after request 8, on its sheets, on sheets of ponds, on sheets cut from
+// larger ones, under all closed sides, with cells of many shapes, on drops that tie by them, on random codes, on cells and levels that are
+// and are not there, on walks, routes and lists of any numbers, on lists of hand-ins, runs and collections from any state of the crews, on
+// damaged texts, and on wrong lengths. What is written is read again, and what is read is written again.
 //   compare ROUNDS [SEED]      sheets up to 5 by 5, each size under each number of closed sides; then ROUNDS of sheets up to 40 by 40
 //   compare big KIND SIDE      one large sheet, by the second program's fast layer
 // A result buffer is lent with guard elements on both sides, and holds a pattern before the call; a no must leave it, and the work buffer
 // up to question 9, which 17 and 20 come before. The counts call must leave the first 2 * rows * cols places of the work buffer
-// beside every answer.
+// beside every answer. Of the crews' state each of the 66 words is compared after each call, where the second program has no word for
+// it too: a call changes just the words that it is said to change.
 #include "../../include/tervuola.h"
 #include "../second/gen.hpp"
 #include <cstring>
@@ -372,18 +374,19 @@ static void drain_round(const Desc &d, const V<i16> &e0, Lengths len, u64 round)
   if (r.number == 0)
     closed_border(d, e, r.filled);
 }
-// A cell and a level for it: mostly a data cell, now and then any cell or none; a level below, equal, above, or any.
-static u32 some_cell(gen::Rng &g, const V<i16> &e) {
+// A cell of a sheet: mostly one that is not `none`, now and then any cell or one off the sheet.
+template <class T> static u32 some_cell(gen::Rng &g, const V<T> &e, T none) {
   if (g.chance(5)) {
     static const u32 off[] = {0, 1, 65536, 2147483648u, 4294967295u};
     u32 past = off[g.below(5)];
     return past > 1 ? past : (u32)e.size() + past;
   }
   u32 cell = e.empty() ? 0 : (u32)g.below(e.size());
-  for (int tries = 0; g.chance(95) && tries < 20 && !e.empty() && e[cell] == VOIDMARK; tries++)
+  for (int tries = 0; g.chance(95) && tries < 20 && !e.empty() && e[cell] == none; tries++)
     cell = (u32)g.below(e.size());
   return cell;
 }
+// a level for a culvert: below, equal, above, or any
 static i16 some_level(gen::Rng &g, i16 z) {
   if (g.chance(60)) // below, as far down as there is a number
     return (i16)std::max<i64>(-32767, (i64)z - (i64)(g.chance(70) ? 1 + g.below(9) : 1 + g.below(65535)));
@@ -397,7 +400,7 @@ static i16 some_level(gen::Rng &g, i16 z) {
 static u64 opened_lower = 0, opened_border = 0, opened_banks = 0;
 static void culvert_round(const Desc &d, const V<i16> &e0, gen::Rng &g, Lengths len, u64 round) {
   V<i16> e = resized(e0, len.of(e0.size()));
-  u32 cell = some_cell(g, e0);
+  u32 cell = some_cell(g, e0, VOIDMARK);
   i16 level = some_level(g, cell < e0.size() ? e0[cell] : (i16)0);
   Filled r = four_round(
       "culvert",
@@ -866,6 +869,292 @@ static void lists_rounds(u64 rows, u64 cols, const Desc &d, const V<u8> &codes, 
   }
 }
 
+// ---- crews
+
+// a sheet of codes of its own size
+struct CodeSheet {
+  Desc d;
+  V<u8> codes;
+};
+static CodeSheet code_sheet(u64 rows, u64 cols, const V<u8> &codes) {
+  CodeSheet s;
+  s.d.rows = rows;
+  s.d.cols = cols;
+  s.codes = codes;
+  return s;
+}
+// what the second program makes of a state; it knows no cell of a crew without a trace
+static Crews crews_of(const V<u64> &w) {
+  Crews s;
+  for (u64 k = 0; k < 32; k++)
+    if (w[k] == 1 || w[k] == 2) {
+      s.c[k].st = w[k] == 1 ? Crews::GOING : Crews::DONE;
+      s.c[k].cell = (u32)w[32 + k];
+    }
+  s.next = (u32)(w[64] % 32);
+  s.total = w[65];
+  return s;
+}
+// The words that each call changes when it is accepted; all others stay, whatever they hold. `s` is what the second program has after the run.
+static void words_handed_in(V<u64> &w, u32 crew, u32 cell) {
+  w[crew] = 1;
+  w[32 + crew] = cell;
+}
+static void words_run(V<u64> &w, uint16_t turns, const Crews &s) {
+  for (u64 k = 0; k < 32; k++)
+    if (w[k] == 1) {
+      w[k] = s.c[k].st == Crews::DONE ? 2 : 1;
+      if ((u32)w[32 + k] != s.c[k].cell) // a trace that does not move keeps its word
+        w[32 + k] = s.c[k].cell;
+    }
+  if (turns)
+    w[64] = s.next;
+  w[65] = s.total;
+}
+static void words_collected(V<u64> &w, u32 crew) {
+  if (w[crew] == 2)
+    w[crew] = 0;
+}
+// the state as it is lent, and as the second program goes on with it
+struct Traces {
+  Lent<u64> words;
+  Crews second;
+  explicit Traces(const V<u64> &w) : words(66), second(crews_of(w)) { std::copy(w.begin(), w.end(), words.at()); }
+  tervuola_crews *lent() { return reinterpret_cast<tervuola_crews *>(words.at()); }
+};
+static void same_state(const char *call, Traces &t, const V<u64> &want, u64 round) {
+  same_list(call, "the state", t.words, want, round);
+  Crews s = crews_of(want);
+  bool same = s.next == t.second.next && s.total == t.second.total && tervuola_turns_worked(t.lent()) == s.total;
+  for (u64 k = 0; k < 32; k++)
+    same = same && s.c[k].st == t.second.c[k].st && s.c[k].cell == t.second.c[k].cell;
+  checks++;
+  if (!same)
+    fail(call, "what the state says", round);
+}
+// what a hand-in or a run lends beside the state
+struct CodesLent {
+  Desc d;
+  V<u8> codes;
+  Lent<u32> work;
+  CodesLent(const CodeSheet &s, Lengths len) : d(s.d), codes(resized(s.codes, len.of(s.codes.size()))), work(len.work(s.codes.size())) {
+    d.rows = len.side(d.rows);
+    d.cols = len.side(d.cols);
+  }
+  // those of the questions up to 12 that have the answer no, each asked by itself; a bad code ends a route
+  V<u32> refused() const {
+    V<u32> l;
+    auto ask = [&](u32 question, bool no) {
+      if (no)
+        l.push_back(question);
+    };
+    bool rows = d.rows >= 1 && d.rows <= 4000, cols = d.cols >= 1 && d.cols <= 4000, fits = codes.size() == d.n();
+    V<u8> good(codes);
+    for (auto &x : good)
+      x = is_code(x) ? x : 0;
+    ask(5, !rows);
+    ask(6, !cols);
+    ask(7, !fits);
+    ask(9, work.n < 4 * d.n());
+    ask(11, good != codes);
+    ask(12, rows && cols && fits && first_endless(d.rows, d.cols, good) < d.n());
+    return l;
+  }
+};
+// A call that lends codes and the state; `said` is the second program's answer to it, `after` makes the words what an accepted one leaves, and `own` are
+// those of the questions past 12 that have the answer no.
+template <class Call, class Said, class After>
+static u32 crews_round(const char *name, CodesLent &l, Traces &t, const V<u32> &own, Call call, Said said, After after, u64 round) {
+  V<u8> codes(l.codes);
+  V<u64> want = t.words.list();
+  Reply r = said();
+  tervuola_answer a = call();
+  same_answer(name, a.number, a.place, r, round);
+  if (a.number == 0)
+    after(want);
+  same_state(name, t, want, round);
+  same_work(name, a.number, l.work, round);
+  if (l.codes != codes)
+    fail(name, "the codes handed in", round);
+  answers[name][a.number]++;
+  if (a.number == 0)
+    return 0;
+  V<u32> refused = l.refused();
+  refused.insert(refused.end(), own.begin(), own.end());
+  if (refused.empty() || refused[0] != a.number)
+    fail(name, "the question that decides", round);
+  for (u64 k = 1; k < refused.size(); k++)
+    before[name][{a.number, refused[k]}]++;
+  return a.number;
+}
+static bool no_route(const V<u8> &codes, u64 cell) { return cell >= codes.size() || !codes[cell]; }
+static void hand_in_round(Traces &t, const CodeSheet &s, u32 crew, u32 cell, Lengths len, u64 round) {
+  CodesLent l(s, len);
+  V<u32> own;
+  if (crew > 31)
+    own.push_back(21);
+  else if (t.second.c[crew].st != Crews::FREE)
+    own.push_back(22);
+  if (no_route(l.codes, cell))
+    own.push_back(23);
+  crews_round(
+      "hand_in", l, t, own,
+      [&] {
+        return tervuola_hand_in((u32)l.d.rows, (u32)l.d.cols, l.codes.data(), l.codes.size(), crew, cell, t.lent(), l.work.at(), l.work.n);
+      },
+      [&] { return call_hand_in(l.d.rows, l.d.cols, l.codes, l.work.n, t.second, crew, cell); },
+      [&](V<u64> &w) { words_handed_in(w, crew, cell); }, round);
+}
+// the crews that a run has named with 23; runs of 0 turns that it refused so, and that were accepted; runs with all turns there can be; runs that came to
+// the largest total, and that worked on past it
+static std::set<u64> lost_crews;
+static u64 lost_without_turns = 0, no_turns = 0, most_turns = 0, total_reached = 0, total_kept = 0;
+static void run_round(Traces &t, const CodeSheet &s, uint16_t turns, Lengths len, u64 round) {
+  CodesLent l(s, len);
+  const Crews start = t.second;
+  V<u32> own;
+  u64 lost = 0;
+  while (lost < 32 && !(start.c[lost].st == Crews::GOING && no_route(l.codes, start.c[lost].cell)))
+    lost++;
+  if (lost < 32)
+    own.push_back(23);
+  u32 number = crews_round(
+      "run", l, t, own,
+      [&] { return tervuola_run((u32)l.d.rows, (u32)l.d.cols, l.codes.data(), l.codes.size(), turns, t.lent(), l.work.at(), l.work.n); },
+      [&] { return call_run(l.d.rows, l.d.cols, l.codes, l.work.n, t.second, turns); }, [&](V<u64> &w) { words_run(w, turns, t.second); }, round);
+  if (number == 23) {
+    lost_crews.insert(lost);
+    lost_without_turns += turns == 0;
+  }
+  if (number)
+    return;
+  no_turns += turns == 0;
+  most_turns += turns == 65535;
+  total_reached += start.total < TOP && t.second.total == TOP;
+  for (u64 k = 0; start.total == TOP && k < 32; k++)
+    if (start.c[k].st != t.second.c[k].st) {
+      total_kept++;
+      return;
+    }
+}
+// how often a collection has given each status, and a cell from a word with more than 32 bits
+static u64 statuses[3], long_words = 0;
+static void collect_round(Traces &t, u32 crew, u64 round) {
+  V<u64> want = t.words.list();
+  u64 count = 0;
+  bool long_word = crew < 32 && want[32 + crew] > 4294967295u;
+  Reply r = call_collect(t.second, crew, count);
+  tervuola_collected a = tervuola_collect(crew, t.lent());
+  same_answer("collect", a.number, a.place, r, round);
+  if (a.status != (u32)r.answer)
+    fail("collect", "the status", round);
+  if (a.cell != r.cell)
+    fail("collect", "the cell", round);
+  if (a.number == 0)
+    words_collected(want, crew);
+  same_state("collect", t, want, round);
+  answers["collect"][a.number]++;
+  statuses[a.status] += a.number == 0;
+  long_words += a.status == 2 && long_word;
+}
+static u32 some_crew(gen::Rng &g) {
+  static const u32 above[] = {32, 33, 63, 64, 255, 256, 65536, 2147483648u, 4294967264u, 4294967295u};
+  return g.chance(6) ? above[g.below(10)] : (u32)g.below(g.chance(60) ? 4 : 32);
+}
+static uint16_t some_turns(gen::Rng &g) {
+  static const uint16_t edges[] = {0, 1, 31, 32, 33, 64};
+  if (g.chance(2))
+    return g.chance(50) ? 65535 : (uint16_t)g.below(65536);
+  return g.chance(40) ? edges[g.below(6)] : (uint16_t)g.below(200);
+}
+// Any content is a state: zeros, any numbers, or numbers at the edges of what they mean, with traces that mostly stand on a route.
+static V<u64> some_state(gen::Rng &g, const V<u8> &codes, u64 kind) {
+  V<u64> w(66);
+  for (auto &x : w)
+    x = kind ? g.g() : 0;
+  if (kind < 2)
+    return w;
+  static const u64 status[] = {0, 1, 1, 1, 1, 2, 2, 3, 257, 4294967297u, 4294967298u, TOP - 1, TOP};
+  static const u64 next[] = {0, 31, 32, 33, 63, 4294967301u, TOP - 31, TOP};
+  const u64 total[] = {0, 4294967295u, TOP - g.below(99), TOP - 1, TOP, g.g()};
+  bool lost = g.chance(15);
+  for (u64 k = 0; k < 32; k++) {
+    u32 cell = some_cell(g, codes, (u8)0);
+    w[k] = status[g.below(13)];
+    if (w[k] == 1 && !lost && no_route(codes, cell))
+      w[k] = 3;
+    w[32 + k] = cell + (g.chance(40) ? g.g() << 32 : 0);
+  }
+  w[64] = g.chance(50) ? next[g.below(8)] : g.below(32);
+  w[65] = total[g.below(6)];
+  return w;
+}
+// a list of hand-ins, runs and collections, each on one of the sheets, with right lengths and sizes or now and then wrong ones
+static void crews_list(const V<CodeSheet> &sheets, const V<u64> &state, u64 count, gen::Rng &g, bool wrong, u64 round) {
+  Traces t(state);
+  for (u64 i = 0; i < count; i++) {
+    const CodeSheet &s = sheets[g.below(sheets.size())];
+    Lengths len{g, wrong};
+    u32 crew = some_crew(g);
+    u64 call = g.below(10);
+    if (call < 4)
+      hand_in_round(t, s, crew, some_cell(g, s.codes, (u8)0), len, round);
+    else if (call < 7)
+      run_round(t, s, some_turns(g), len, round);
+    else
+      collect_round(t, crew, round);
+  }
+}
+// one sheet of codes whose routes end; two of two sizes in turn, so that traces of one stand off the other; or one and another that may have any codes
+static void crews_lists(const CodeSheet &any, u64 kind, u64 count, gen::Rng &g, bool wrong, u64 round) {
+  u64 rows = any.d.rows, cols = any.d.cols, other = 1 + g.below(5);
+  V<CodeSheet> sheets{code_sheet(rows, cols, gen::codes(g.g() % 100000, rows, cols, 4))};
+  if (kind % 3 == 1)
+    sheets.push_back(code_sheet(other, cols, gen::codes(g.g() % 100000, other, cols, 4)));
+  if (kind % 3 == 2)
+    sheets.push_back(any);
+  crews_list(sheets, some_state(g, sheets[0].codes, kind / 3 % 3), count, g, wrong, round);
+}
+// each crew as the lowest that a run names: those before it stand on a route, it and those behind it on code 0 or off the sheet
+static void lost_in_turn() {
+  const CodeSheet s = code_sheet(1, 2, {2, 0});
+  gen::Rng g(1);
+  for (u64 k = 0; k < 32; k++) {
+    V<u64> w(66);
+    for (u64 j = 0; j < 32; j++) {
+      w[j] = 1;
+      w[32 + j] = j < k ? 0 : 1 + j % 2;
+    }
+    Traces t(w);
+    run_round(t, s, k % 2 ? 32 : 0, Lengths{g, false}, k);
+  }
+}
+// every size up to 5 by 5, from each kind of state
+static void small_crews(u64 seed) {
+  ENGINE = LITERAL;
+  part = "list of calls for crews";
+  lost_in_turn();
+  for (u64 i = 0; i < 25 * 9 * 2; i++) {
+    gen::Rng g(seed * 1000003 + i);
+    u64 rows = 1 + i / 18 % 5, cols = 1 + i / 90;
+    crews_lists(code_sheet(rows, cols, gen::codes(i, rows, cols, (int)g.below(4))), i / 2, 60, g, i % 2 == 1, i);
+  }
+  part = "round";
+}
+// on a large sheet: crews at both ends of the sheet and between them, the first and the last crew among them
+static void large_crews(const Desc &d, const V<u8> &codes, gen::Rng &g) {
+  const CodeSheet s = code_sheet(d.rows, d.cols, codes);
+  Traces t(V<u64>(66));
+  Lengths len{g, false};
+  const u32 cells[] = {0, some_cell(g, codes, (u8)0), (u32)d.n() - 1};
+  for (u32 k = 0; k < 3; k++)
+    hand_in_round(t, s, 31 * k / 2, cells[k], len, k);
+  run_round(t, s, 40, len, 0);
+  run_round(t, s, 65535, len, 0);
+  for (u32 k = 0; k < 32; k++)
+    collect_round(t, k, k);
+}
+
 // codes: random, from a sheet, or those with a ring or a bad byte
 static V<u8> some_codes(gen::Rng &g, const Desc &d, const V<i16> &e) {
   u64 n = d.n();
@@ -1036,6 +1325,7 @@ static int rounds(u64 count, u64 seed) {
   write_sizes(seed);
   small_lists();
   list_sizes();
+  small_crews(seed);
   for (u64 i = 0; i < count; i++) {
     gen::Rng g(seed * 1000003 + i);
     u64 side = g.chance(70) ? 9 : g.chance(70) ? 20 : 40;
@@ -1077,6 +1367,7 @@ static int rounds(u64 count, u64 seed) {
     write_round(d, resized(any, len.of(any.size())), text_room(d, g, g.below(7)), i);
     if (s.rows * s.cols <= 2304)
       equal_texts(s.rows, s.cols, any, g, i);
+    crews_lists(code_sheet(s.rows, s.cols, codes), g.below(9), 12, g, len.wrong, i);
   }
   printf("compare: %llu rounds, %llu comparisons, all equal\n", (unsigned long long)count, (unsigned long long)checks);
   printf("compare: up to %llu ponds; %llu cells opened to a lower level, %llu of them on the border, %llu that lower the filled sheet elsewhere\n",
@@ -1092,6 +1383,11 @@ static int rounds(u64 count, u64 seed) {
          "of oblong cells with other codes than square ones have\n",
          (unsigned long long)side_corner_ties, (unsigned long long)border_ties, (unsigned long long)side_side_ties, (unsigned long long)three_ties,
          (unsigned long long)other_codes);
+  printf("compare: collections: %llu of no trace, %llu waiting, %llu finished, %llu of them from a word past 32 bits; runs: %llu crews named with 23, %llu "
+         "times without a turn; %llu accepted without a turn, %llu of 65,535, %llu that came to the largest total, %llu that went on from it\n",
+         (unsigned long long)statuses[0], (unsigned long long)statuses[1], (unsigned long long)statuses[2], (unsigned long long)long_words,
+         (unsigned long long)lost_crews.size(), (unsigned long long)lost_without_turns, (unsigned long long)no_turns, (unsigned long long)most_turns,
+         (unsigned long long)total_reached, (unsigned long long)total_kept);
   bool all = every_answer("counts", {0, 5, 6, 7, 8, 9, 11, 12});
   all = every_answer("labels", {0, 5, 6, 7, 8, 9, 11, 12}) && all;
   all = every_outlets_answer("fill", {0, 5, 6, 17, 7, 8, 9, 18}, {}) && all;
@@ -1104,6 +1400,15 @@ static int rounds(u64 count, u64 seed) {
   all = every_outlets_answer("culvert", {0, 5, 6, 17, 20, 7, 8, 9, 15, 16, 18}, culvert) && all;
   all = every_answer("write", {0, 4, 5, 6, 7, 8}) && every_order("write", {{4, 5}, {4, 6}, {4, 7}, {4, 8}, {5, 6}, {5, 7}, {5, 8}, {6, 7}, {6, 8}, {7, 8}}) && all;
   all = every_answer("check_lists", {0, 5, 6, 19}) && every_order("check_lists", {{5, 6}, {5, 19}, {6, 19}}) && all;
+  const V<std::pair<u32, u32>> codes_order{{5, 6}, {5, 7}, {5, 9}, {6, 7}, {6, 9}, {7, 9}, {7, 11}, {9, 11}, {9, 12}, {11, 12},
+                                           {5, 23}, {6, 23}, {7, 23}, {9, 23}, {11, 23}, {12, 23}};
+  V<std::pair<u32, u32>> hand_in(codes_order);
+  hand_in.insert(hand_in.end(), {{9, 21}, {9, 22}, {11, 21}, {11, 22}, {12, 21}, {12, 22}, {21, 23}, {22, 23}});
+  all = every_answer("hand_in", {0, 5, 6, 7, 9, 11, 12, 21, 22, 23}) && every_order("hand_in", hand_in) && all;
+  all = every_answer("run", {0, 5, 6, 7, 9, 11, 12, 23}) && every_order("run", codes_order) && all;
+  all = every_answer("collect", {0, 21}) && all;
+  all = all && statuses[0] && statuses[1] && statuses[2] && long_words && lost_crews.size() == 32 && lost_without_turns && no_turns && most_turns;
+  all = all && total_reached && total_kept;
   all = all && side_corner_ties && border_ties && side_side_ties && three_ties && other_codes;
   all = all && shared_whole && shared_part && shared_none && routes_met && routes_apart && both_bad;
   return checks && all && opened_border && opened_banks && inward_wet && inward_flat && raised_texts && exact_rooms && short_rooms ? 0 : 1;
@@ -1126,6 +1431,7 @@ static int big(const char *kind, u64 side) {
   watersheds_round(d, codes, g, len, 0);
   starts_round(d, codes, g, len, 0);
   long_lists(d, codes);
+  large_crews(d, codes, g);
   drain_round(d, s.e, len, 0);
   V<i16> banks = pond_sheet(g, DEEPEST, side, side);
   ponds_round(d, s.e, true, g, len, 0);
@@ -1148,7 +1454,7 @@ static int big(const char *kind, u64 side) {
 }
 
 int main(int argc, char **argv) {
-  LEVEL = 7;
+  LEVEL = 8;
   if (argc == 4 && !strcmp(argv[1], "big"))
     return big(argv[2], strtoull(argv[3], 0, 10));
   if (argc < 2) {

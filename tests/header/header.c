@@ -26,6 +26,9 @@ tervuola_answer tervuola_culvert(uint32_t, uint32_t, uint32_t, uint32_t, uint32_
 tervuola_counted tervuola_write(uint32_t, uint32_t, const int16_t *, size_t, uint8_t *, size_t);
 tervuola_located tervuola_check_lists(uint32_t, uint32_t, const uint32_t *, size_t, const uint32_t *, size_t);
 tervuola_part tervuola_shared_ending(uint32_t, uint32_t, const uint32_t *, size_t, const uint32_t *, size_t);
+tervuola_answer tervuola_hand_in(uint32_t, uint32_t, const uint8_t *, size_t, uint32_t, uint32_t, tervuola_crews *, uint32_t *, size_t);
+tervuola_answer tervuola_run(uint32_t, uint32_t, const uint8_t *, size_t, uint16_t, tervuola_crews *, uint32_t *, size_t);
+tervuola_collected tervuola_collect(uint32_t, tervuola_crews *);
 #ifdef __cplusplus
 }
 #endif
@@ -41,6 +44,7 @@ int main(void)
     uint64_t volume[2];
     const tervuola_part none = {0, 0}, last = {1, 1};
     tervuola_located located;
+    tervuola_crews crews = {0};
     work[35] = 1;
     EXPECT(sizeof work == 144 && work[35] == 1);
     EXPECT(TERVUOLA_WORK_SIZE(TERVUOLA_MAX_SIDE, TERVUOLA_MAX_SIDE) == 64000000u);
@@ -57,7 +61,7 @@ int main(void)
     EXPECT(sizeof tervuola_culvert(3, 3, 0, 1, 1, elevations, 9, numbers[0], level[0], filled, 9, codes, 9, numbers, 9, numbers, 9, work, 36)
            == sizeof(tervuola_answer));
     EXPECT(strcmp(tervuola_text(0), "accepted") == 0);
-    for (k = 1; k <= 20; k++) {
+    for (k = 1; k <= 23; k++) {
         EXPECT(strcmp(tervuola_text(k), "unknown number") != 0);
         EXPECT(strcmp(tervuola_text(k), tervuola_text(k - 1)) != 0);
     }
@@ -65,11 +69,20 @@ int main(void)
     EXPECT(TERVUOLA_BAD_CELL == 15 && TERVUOLA_BAD_LEVEL == 16 && TERVUOLA_BAD_SIDES == 17 && TERVUOLA_NO_OUTLET == 18);
     EXPECT(TERVUOLA_BAD_LIST == 19 && TERVUOLA_BAD_CELL_SHAPE == 20 && TERVUOLA_MAX_CELL_SIDE == 1000);
     EXPECT(TERVUOLA_CLOSED_WEST == 1 && TERVUOLA_CLOSED_EAST == 2 && TERVUOLA_CLOSED_NORTH == 4 && TERVUOLA_CLOSED_SOUTH == 8);
-    EXPECT(strcmp(tervuola_text(21), "unknown number") == 0);
+    EXPECT(TERVUOLA_BAD_CREW == 21 && TERVUOLA_NOT_COLLECTED == 22 && TERVUOLA_NO_ROUTE == 23 && TERVUOLA_CREWS == 32);
+    EXPECT(TERVUOLA_NO_TRACE == 0 && TERVUOLA_WAITING == 1 && TERVUOLA_FINISHED == 2);
+    EXPECT(strcmp(tervuola_text(24), "unknown number") == 0);
     /* a place in a list and a part of one are of the machine's size; the part's pointer, of an empty list too */
     EXPECT(sizeof(tervuola_located) == 2 * sizeof(size_t) && sizeof(tervuola_part) == 2 * sizeof(size_t));
     EXPECT(sizeof located.place == sizeof(size_t) && offsetof(tervuola_located, place) == sizeof(size_t));
     EXPECT(offsetof(tervuola_part, at) == 0 && offsetof(tervuola_part, count) == sizeof(size_t));
+    /* the crews' state is 66 words and no more; {0} begins; the total is the last */
+    EXPECT(sizeof(tervuola_crews) == 66 * 8 && sizeof crews.words == sizeof crews && sizeof(tervuola_collected) == 16);
+    EXPECT(offsetof(tervuola_collected, place) == 4 && offsetof(tervuola_collected, status) == 8 && offsetof(tervuola_collected, cell) == 12);
+    for (k = 0; k < 66; k++) EXPECT(crews.words[k] == 0);
+    EXPECT(tervuola_turns_worked(&crews) == 0);
+    crews.words[65] = UINT64_MAX;
+    EXPECT(tervuola_turns_worked(&crews) == UINT64_MAX);
     EXPECT(tervuola_part_of(cells, none) == cells && tervuola_part_of(cells, last) == cells + 1 && tervuola_part_of(NULL, none) == NULL);
     return 0;
 }

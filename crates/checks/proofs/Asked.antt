@@ -221,11 +221,21 @@ same-lists g i i' r r' later p q = ap (askSize g) (same-lengths g i i' r r' late
 results-again : (n r : ℕ) → allHave n (r ∷ r ∷ r ∷ r ∷ []) ≡ allHave n (r ∷ [])
 results-again n r = have-again n r (r ∷ r ∷ []) ∙ have-again n r (r ∷ []) ∙ have-again n r []
 
--- what `check` answers for one input sheet, for two, and for one with four results
+-- what `check` answers for one input sheet, with one result and with none, for two, and for one with four results
 pub one-input : (g : Grid) (a r : ℕ) (later : Answer) →
     askSheets g (a ∷ a ∷ []) (r ∷ r ∷ r ∷ r ∷ []) later ≡ askSheets g (a ∷ []) (r ∷ []) later
 one-input g a r later =
     same-lists g (a ∷ a ∷ []) (a ∷ []) (r ∷ r ∷ r ∷ r ∷ []) (r ∷ []) later (have-again (size g) a []) (results-again (size g) r)
+
+-- the input named for the result: 8 refuses nothing that 7 has not refused
+pub no-result : (g : Grid) (a : ℕ) (later : Answer) → askSheets g (a ∷ []) (a ∷ []) later ≡ askSheets g (a ∷ []) [] later
+unfolding askSheets askLengths allHave
+no-result g a later = ap (askSize g) (go (eqb a (size g)))
+  where
+    go : (t : Bool) → ask (t && true) (refusal 7 0) (ask (t && true) (refusal 8 0) later)
+        ≡ ask (t && true) (refusal 7 0) (ask true (refusal 8 0) later)
+    go true = refl
+    go false = refl
 
 pub two-inputs : (g : Grid) (a b r : ℕ) (later : Answer) →
     askSheets g (a ∷ b ∷ []) (r ∷ r ∷ r ∷ r ∷ []) later ≡ askSheets g (a ∷ b ∷ []) (r ∷ []) later

@@ -3,10 +3,11 @@ use mathlib.Core.Bool.{Bool, true, false, _&&_}
 use mathlib.Core.List.{List, [], _∷_, map}
 use Prim.Native.Nat.{ℕ}
 use lib.Dec.{eqb}
-use lib.ListN.{getD}
+use lib.ListN.{getD, set}
 use lib.IntN.{ℤ, pos, negsuc, _-ℤ_}
 use Rattle.grid.specs.Below.{table}
 use Rattle.grid.specs.declared.Answer.{Answer}
+use Rattle.grid.specs.declared.Collected.{Collected}
 use Rattle.grid.specs.declared.Grid.{Grid}
 use Rattle.grid.specs.Sheet.{gridOf, closedGrid, shapedGrid, eqZ}
 use Rattle.grid.specs.Fill.{filled}
@@ -16,6 +17,8 @@ use Rattle.grid.specs.Ponds.{ponds, pondCount, pondLevel, pondCells, pondVolume
 use Rattle.grid.specs.Culvert.{opened}
 use Rattle.grid.specs.Checks.{accepted, askSize, fillCheck, directionsCheck, drainCheck, codesCheck, pondsCheck, culvertCheck}
 use Rattle.grid.specs.Endings.{endingCheck, sharedEnding}
+use Rattle.grid.specs.Crews.{largest, standsOn, nextCrew, totalOf, handInCheck, runCheck, collected}
+use Rattle.grid.specs.Operations.{Operation, run, hand-in, collect, afterAll, zeros}
 use Rattle.grid.specs.Frames.{textSheet, elevationText, programText}
 use Rattle.grid.specs.Writing.{writeCheck, raised}
 
@@ -205,11 +208,43 @@ shapeIn : (sides width height room : ℕ) → List ℕ
 unfolding numberAndPlace cut
 shapeIn sides width height room = numberAndPlace (drainCheck (shapedGrid 3 4 sides width height) cut room 12 12 12 48)
 
+-- two streams that end beside a void: from cell 0 over cell 1, and at cell 3
+streams : List ℕ
+streams = 2 ∷ 2 ∷ 0 ∷ 32 ∷ []
+
+-- the crews' state after these operations
+crewsAfter : List Operation → List ℕ
+unfolding streams
+crewsAfter l = afterAll (gridOf 1 4) streams zeros l
+
+-- crews 0 and 31 hand in the cells where the streams begin, and so many turns are taken, in two runs
+traced : ℕ → ℕ → List Operation
+traced a b = hand-in 16 0 0 ∷ hand-in 16 31 3 ∷ run 16 a ∷ run 16 b ∷ []
+
+-- where the two stand, whose turn is next, and the total
+standing : List ℕ → List ℕ
+standing s = standsOn s 0 ∷ standsOn s 31 ∷ nextCrew s ∷ totalOf s ∷ []
+
+collectedIn : List ℕ → ℕ → List ℕ
+collectedIn s crew =
+    let c : Collected = collected s crew in
+    c .number ∷ c .place ∷ c .status ∷ c .cell ∷ []
+
+-- for a hand-in, and for a run, on the streams
+handedIn : ℕ → ℕ → ℕ → List ℕ → List ℕ
+unfolding streams numberAndPlace
+handedIn work crew cell s = numberAndPlace (handInCheck (gridOf 1 4) streams work crew cell s)
+
+runIn : ℕ → List ℕ → List ℕ
+unfolding streams numberAndPlace
+runIn work s = numberAndPlace (runCheck (gridOf 1 4) streams work s)
+
 -- ---- the table
 
 unfoldable pub knownGround : List Case
 unfolding printed-input printed-output voids between middle basin hole pools poolNumbers bank opened-bank cut eastward corners
     corners-read corners-written numberAndPlace culvertIn writeIn listsIn codeAmid shapeIn basinCodes openedCodes eastwardCodes
+    streams crewsAfter traced standing collectedIn handedIn runIn
 knownGround =
     -- P1: the printed example, from text to text
     numbers (programText printed-input) printed-output
@@ -344,6 +379,35 @@ knownGround =
     ∷ numbers (listsIn (0 ∷ 1 ∷ 3 ∷ []) (15 ∷ [])) (19 ∷ 2 ∷ [])
     ∷ numbers (numberAndPlace (endingCheck (gridOf 0 0) (0 ∷ []) [])) (5 ∷ 0 ∷ [])
     ∷ numbers (numberAndPlace (endingCheck (gridOf 3 4001) (15 ∷ 15 ∷ []) [])) (6 ∷ 0 ∷ [])
+    -- crews: a trace of two cells and one of a cell. Crew 31's turn is the 32nd, and crew 0 finishes at its second, the 33rd
+    ∷ numbers (standing (crewsAfter (traced 0 0))) (0 ∷ 3 ∷ 0 ∷ 0 ∷ [])
+    ∷ numbers (standing (crewsAfter (traced 30 1))) (1 ∷ 3 ∷ 31 ∷ 1 ∷ [])
+    ∷ numbers (standing (crewsAfter (traced 31 1))) (1 ∷ 3 ∷ 0 ∷ 2 ∷ [])
+    ∷ numbers (standing (crewsAfter (traced 31 2))) (1 ∷ 3 ∷ 1 ∷ 3 ∷ [])
+    ∷ numbers (standing (crewsAfter (traced 31 40))) (1 ∷ 3 ∷ 7 ∷ 3 ∷ [])
+    ∷ numbers (collectedIn (crewsAfter (traced 31 1)) 0) (0 ∷ 0 ∷ 1 ∷ 0 ∷ [])
+    ∷ numbers (collectedIn (crewsAfter (traced 31 1)) 31) (0 ∷ 0 ∷ 2 ∷ 3 ∷ [])
+    ∷ numbers (collectedIn (crewsAfter (traced 31 2)) 0) (0 ∷ 0 ∷ 2 ∷ 1 ∷ [])
+    ∷ numbers (collectedIn (crewsAfter (traced 31 2)) 1) (0 ∷ 0 ∷ 0 ∷ 0 ∷ [])
+    ∷ numbers (collectedIn (crewsAfter (traced 31 2)) 32) (21 ∷ 0 ∷ 0 ∷ 0 ∷ [])
+    ∷ numbers (collectedIn (crewsAfter (hand-in 16 0 0 ∷ run 16 33 ∷ collect 0 ∷ [])) 0) (0 ∷ 0 ∷ 0 ∷ 0 ∷ [])
+    ∷ numbers (collectedIn (crewsAfter (hand-in 16 0 0 ∷ run 16 32 ∷ collect 0 ∷ [])) 0) (0 ∷ 0 ∷ 1 ∷ 0 ∷ [])
+    -- the total stays at the largest number
+    ∷ numbers (totalOf (afterAll (gridOf 1 4) streams (set zeros 65 largest) (traced 32 32)) ∷ []) (largest ∷ [])
+    -- 9 before 21 to 23; 21 before 22, finished or not, before 23; a void and what is off the sheet get 23
+    ∷ numbers (handedIn 16 1 3 zeros) (0 ∷ 0 ∷ [])
+    ∷ numbers (handedIn 15 32 2 zeros) (9 ∷ 0 ∷ [])
+    ∷ numbers (handedIn 16 32 2 zeros) (21 ∷ 0 ∷ [])
+    ∷ numbers (handedIn 16 0 2 (crewsAfter (traced 1 0))) (22 ∷ 0 ∷ [])
+    ∷ numbers (handedIn 16 31 3 (crewsAfter (traced 32 0))) (22 ∷ 0 ∷ [])
+    ∷ numbers (handedIn 16 1 2 zeros) (23 ∷ 0 ∷ [])
+    ∷ numbers (handedIn 16 1 4 zeros) (23 ∷ 0 ∷ [])
+    -- a run's 23: the lowest crew whose unfinished trace stands on a void or off the sheet; a finished one may stand there
+    ∷ numbers (runIn 16 (crewsAfter (traced 31 1))) (0 ∷ 0 ∷ [])
+    ∷ numbers (runIn 16 (set (set (set zeros 9 1) 41 2) 7 2)) (23 ∷ 9 ∷ [])
+    ∷ numbers (runIn 16 (set (set (set (set zeros 9 1) 41 2) 7 1) 39 4)) (23 ∷ 7 ∷ [])
+    ∷ numbers (runIn 16 (set (set zeros 9 2) 41 2)) (0 ∷ 0 ∷ [])
+    ∷ numbers (runIn 15 (set (set zeros 9 1) 41 2)) (9 ∷ 0 ∷ [])
     -- "Rows 4,000 passes, 4,001 gets 5. Codes 2 and 32 side by side, facing each other, get 12"
     ∷ numbers ((askSize (gridOf 4000 1) accepted) .number ∷ []) (0 ∷ [])
     ∷ numbers ((askSize (gridOf 4001 1) accepted) .number ∷ []) (5 ∷ [])

@@ -16,6 +16,9 @@ use Rattle.grid.specs.Checks.{inRange, askSize, allHave, askLengths, askSides, 
 use Rattle.grid.specs.Checks.{askWork, askReach, askCodes}
 use Rattle.grid.specs.Checks.{askCulvert, fillCheck, directionsCheck, codesCheck, drainCheck, pondsCheck, culvertCheck}
 use Rattle.grid.specs.Endings.{areNeighbours, isStray, firstStray, askList, endingCheck, sharedLength, sharedEnding}
+use Rattle.grid.specs.Crews.{isOnWay, isFinished, hasTrace, counted, stepped, turnOf, turn, turns, askTrace, handInCheck, handedIn}
+use Rattle.grid.specs.Crews.{firstLost, askLost, runCheck, collected, freed}
+use Rattle.grid.specs.Operations.{after, afterAll}
 use Rattle.grid.specs.Frames.{hexValue, isTextByte, number4, textGrid, endsLine, isShaped, firstBadByte, readCheck, fromTwos, toTwos}
 use Rattle.grid.specs.Frames.{textSheet, upperDigit, hexText, sheetText, headerText, elevationText, resultText, refusalText, drainText}
 use Rattle.grid.specs.Frames.{programText}
@@ -33,5 +36,6 @@ unfolding allHold knownGround table anyBelow sumBelow countBelow firstBelow join
     fillCheck directionsCheck codesCheck drainCheck pondsCheck askCulvert culvertCheck areNeighbours isStray firstStray askList
     endingCheck sharedLength sharedEnding hexValue isTextByte number4 textGrid endsLine
     isShaped firstBadByte readCheck fromTwos toTwos textSheet upperDigit hexText sheetText headerText elevationText resultText
-    refusalText drainText programText writeCheck raised
+    refusalText drainText programText writeCheck raised isOnWay isFinished hasTrace counted stepped turnOf turn turns askTrace handInCheck
+    handedIn firstLost askLost runCheck collected freed after afterAll
 known-ground = refl

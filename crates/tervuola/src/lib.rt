@@ -2,15 +2,16 @@
 // over the proved calls, each with the promise of the call behind it. A slice crosses as a pointer and a number of elements; structs come
 // back by value.
 use grid::Answer;
+use grid::Collected;
 use grid::Counted;
 use grid::Dimensions;
 use grid::Grid;
 use grid::Located;
 use grid::Part;
 ghost use Rattle.grid.specs.Sheet.{gridOf, closedGrid, shapedGrid};
-ghost use Rattle.grid.specs.Promises.{CountsPromise, CulvertPromise, DirectionsPromise, DrainPromise, FillPromise, LabelsPromise};
-ghost use Rattle.grid.specs.Promises.{ListsPromise, PartPromise, PondsPromise, PourPointsPromise, ReadPromise, StartsPromise};
-ghost use Rattle.grid.specs.Promises.{WatershedsPromise, WritePromise};
+ghost use Rattle.grid.specs.Promises.{CollectPromise, CountsPromise, CulvertPromise, DirectionsPromise, DrainPromise, FillPromise};
+ghost use Rattle.grid.specs.Promises.{HandInPromise, LabelsPromise, ListsPromise, PartPromise, PondsPromise, PourPointsPromise};
+ghost use Rattle.grid.specs.Promises.{ReadPromise, RunPromise, StartsPromise, WatershedsPromise, WritePromise};
 
 // Elevations to the filled sheet.
 #[no_mangle]
@@ -318,6 +319,61 @@ pub extern "C" fn tervuola_shared_ending(
         at: first.len() - count,
         count: count,
     }
+}
+
+// A crew hands in a cell of a sheet of codes. An array of fixed length crosses as a pointer alone.
+#[no_mangle]
+pub extern "C" fn tervuola_hand_in(
+    rows: u32,
+    cols: u32,
+    codes: &[u8],
+    crew: u32,
+    cell: u32,
+    crews: &mut [u64; 66],
+    work: &mut [u32],
+) -> Answer
+    ensures { λ r. ⌜ HandInPromise (gridOf rows cols) (now (codes .entry)) crew cell (now (crews .entry)) (now (crews .exit))
+        (now (work .entry)) (now (work .exit)) r ⌝ }
+{
+    let g = Grid {
+        rows: rows as usize,
+        cols: cols as usize,
+        sides: 0,
+        width: 1,
+        height: 1,
+    };
+    tracing::hand_in(g, codes, crew, cell, crews, work)
+}
+
+// Turns of the crews' traces on a sheet of codes.
+#[no_mangle]
+pub extern "C" fn tervuola_run(
+    rows: u32,
+    cols: u32,
+    codes: &[u8],
+    turns: u16,
+    crews: &mut [u64; 66],
+    work: &mut [u32],
+) -> Answer
+    ensures { λ r. ⌜ RunPromise (gridOf rows cols) (now (codes .entry)) turns (now (crews .entry)) (now (crews .exit)) (now (work .entry))
+        (now (work .exit)) r ⌝ }
+{
+    let g = Grid {
+        rows: rows as usize,
+        cols: cols as usize,
+        sides: 0,
+        width: 1,
+        height: 1,
+    };
+    tracing::run(g, codes, turns, crews, work)
+}
+
+// A crew asks for its trace.
+#[no_mangle]
+pub extern "C" fn tervuola_collect(crew: u32, crews: &mut [u64; 66]) -> Collected
+    ensures { λ r. ⌜ CollectPromise crew (now (crews .entry)) (now (crews .exit)) r ⌝ }
+{
+    tracing::collect(crew, crews)
 }
 
 // A text frame to rows, columns and elevations.

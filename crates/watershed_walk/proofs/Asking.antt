@@ -1,4 +1,4 @@
--- The answers to 11, 12 and 13, each by the first cell for which it is no.
+-- The answer to 13, by the first cell for which it is no, after those to 11 and 12.
 use mathlib.Core.Path.{_≡_, sym, _∙_, ap}
 use mathlib.Core.Bool.{true, false, _&&_}
 use mathlib.Core.List.{List}
@@ -14,7 +14,8 @@ use Rattle.grid.specs.Sheet.{size}
 use Rattle.grid.specs.Routes.{firstBadCode, firstEndless, firstBadStart}
 use Rattle.grid.specs.Checks.{accepted, refusal, askCell, askCodes}
 use Rattle.grid_laws.proofs.Below.{first-is, first-none, first-≤}
-use Rattle.checks.proofs.Questions.{bad-≤, endless-≤, cell-no, cell-yes, codes-bad, codes-endless, codes-yes}
+use Rattle.checks.proofs.Gate.{both, passed, answered-no, answered-yes, is-accepted}
+use Rattle.checks.proofs.Questions.{cell-no, cell-yes, cell-gate, codes-gate}
 
 -- ---- question 13
 -- r is the first place where a start stands without a code, or the length
@@ -43,35 +44,22 @@ stray-≤ g codes starts = first-≤ (size g) _
 abbrev pub routesCheck : Grid → List ℕ → List ℕ → Answer
 routesCheck g codes starts = askCodes g codes (askCell 13 g (firstBadStart g codes starts) accepted)
 
-module _ (g : Grid) (codes starts : List ℕ) (long : length codes ≡ size g) where
-  pub answer-11 : (b : ℕ) → b ≡ firstBadCode g codes → b < length codes → refusal 11 b ≡ routesCheck g codes starts
-  answer-11 b e h = ap (refusal 11) e ∙ sym (codes-bad g codes (askCell 13 g (firstBadStart g codes starts) accepted) (omega arith))
+module _ (g : Grid) (codes starts : List ℕ) (long : length codes ≡ size g) (r : Answer) (asked : r ≡ askCodes g codes accepted) where
+  -- a no to 11 or 12
+  pub answer-no : (r .number ≡ 0 → ⊥) → r ≡ routesCheck g codes starts
+  answer-no n = answered-no (codes-gate g codes) asked n (askCell 13 g (firstBadStart g codes starts) accepted)
 
-  pub none-bad : (b : ℕ) → b ≡ firstBadCode g codes → length codes ≤ b → firstBadCode g codes ≡ size g
-  none-bad b e h = let q = bad-≤ g codes in omega arith
+  module _ (yes : r .number ≡ 0) (b : ℕ) (e : b ≡ firstBadStart g codes starts) where
+    pub answer-13 : b < length codes → refusal 13 b ≡ routesCheck g codes starts
+    answer-13 h =
+        ap (refusal 13) e ∙ sym (cell-no 13 (firstBadStart g codes starts) g accepted (omega arith))
+        ∙ answered-yes (codes-gate g codes) asked yes (askCell 13 g (firstBadStart g codes starts) accepted)
 
-  pub none-endless : (b : ℕ) → b ≡ firstEndless g codes → length codes ≤ b → firstEndless g codes ≡ size g
-  none-endless b e h = let q = endless-≤ g codes in omega arith
-
-  pub none-stray : (b : ℕ) → b ≡ firstBadStart g codes starts → length codes ≤ b → firstBadStart g codes starts ≡ size g
-  none-stray b e h = let q = stray-≤ g codes starts in omega arith
-
-  module _ (good : firstBadCode g codes ≡ size g) where
-    pub answer-12 : (b : ℕ) → b ≡ firstEndless g codes → b < length codes → refusal 12 b ≡ routesCheck g codes starts
-    answer-12 b e h =
-        ap (refusal 12) e ∙ sym (codes-endless g codes (askCell 13 g (firstBadStart g codes starts) accepted) good (omega arith))
-
-    module _ (ends : firstEndless g codes ≡ size g) where
-      pub answer-13 : (b : ℕ) → b ≡ firstBadStart g codes starts → b < length codes → refusal 13 b ≡ routesCheck g codes starts
-      answer-13 b e h =
-          ap (refusal 13) e
-          ∙ sym (codes-yes g codes (askCell 13 g (firstBadStart g codes starts) accepted) good ends
-          ∙ cell-no 13 (firstBadStart g codes starts) g accepted (omega arith))
-
-      pub answer-yes : firstBadStart g codes starts ≡ size g → accepted ≡ routesCheck g codes starts
-      answer-yes q =
-          sym (codes-yes g codes (askCell 13 g (firstBadStart g codes starts) accepted) good ends
-          ∙ cell-yes 13 (firstBadStart g codes starts) g accepted q)
+    pub answer-yes : length codes ≤ b → r ≡ routesCheck g codes starts
+    answer-yes h =
+        let q = stray-≤ g codes starts in
+        is-accepted (codes-gate g codes) asked yes ∙ sym (cell-yes 13 (firstBadStart g codes starts) g accepted (omega arith))
+        ∙ answered-yes (codes-gate g codes) asked yes (askCell 13 g (firstBadStart g codes starts) accepted)
 
 -- ---- what an accepted answer says
 pub record AllYes (g : Grid) (codes starts : List ℕ) : Type 0 where
@@ -80,27 +68,6 @@ pub record AllYes (g : Grid) (codes starts : List ℕ) : Type 0 where
   pub no-stray : firstBadStart g codes starts ≡ size g
 
 pub all-yes : (g : Grid) (codes starts : List ℕ) (r : Answer) → r ≡ routesCheck g codes starts → r .number ≡ 0 → AllYes g codes starts
-all-yes g codes starts r e z = by-bad (decLt (firstBadCode g codes) (size g))
-  where
-    not-asked : (k b : ℕ) → 0 < k → routesCheck g codes starts ≡ refusal k b → ⊥
-    not-asked k b h q = let w : r .number ≡ k = ap (λ (a : Answer). a .number) (e ∙ q) in omega arith
-
-    by-stray : firstBadCode g codes ≡ size g → firstEndless g codes ≡ size g → Dec (firstBadStart g codes starts < size g) →
-        AllYes g codes starts
-    by-stray p q (yes h) =
-        absurd (not-asked 13 (firstBadStart g codes starts) (omega arith)
-        (codes-yes g codes (askCell 13 g (firstBadStart g codes starts) accepted) p q
-        ∙ cell-no 13 (firstBadStart g codes starts) g accepted h))
-    by-stray p q (no f) = record { no-bad = p; no-endless = q; no-stray = (let b = stray-≤ g codes starts in omega arith) }
-
-    by-endless : firstBadCode g codes ≡ size g → Dec (firstEndless g codes < size g) → AllYes g codes starts
-    by-endless p (yes h) =
-        absurd (not-asked 12 (firstEndless g codes) (omega arith)
-        (codes-endless g codes (askCell 13 g (firstBadStart g codes starts) accepted) p h))
-    by-endless p (no f) = by-stray p (let b = endless-≤ g codes in omega arith) (decLt (firstBadStart g codes starts) (size g))
-
-    by-bad : Dec (firstBadCode g codes < size g) → AllYes g codes starts
-    by-bad (yes h) =
-        absurd (not-asked 11 (firstBadCode g codes) (omega arith)
-        (codes-bad g codes (askCell 13 g (firstBadStart g codes starts) accepted) h))
-    by-bad (no f) = by-endless (let b = bad-≤ g codes in omega arith) (decLt (firstEndless g codes) (size g))
+all-yes g codes starts r e z =
+    let f = passed (both (codes-gate g codes) (cell-gate 13 (firstBadStart g codes starts) g (omega arith))) e z .fact in
+    record { no-bad = f .0 .0; no-endless = f .0 .1; no-stray = f .1 }

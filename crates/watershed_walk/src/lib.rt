@@ -99,19 +99,6 @@ fn watersheds_in(g: Grid, codes: &[u8], starts: &[u32], watersheds: &mut [u32], 
     read_watersheds(n, starts, tail, watersheds);
 }
 
-// Question 12: the first cell whose route does not end, or rows * cols.
-fn first_endless(g: Grid, codes: &[u8], tail: &mut [u32]) -> usize
-    requires { ⌜ Fits g ⌝ }
-    requires { ⌜ length (now codes) ≡ size g ⌝ }
-    requires { ⌜ size g ≤ length (now tail) ⌝ }
-    requires { ⌜ AllCodes (now codes) ⌝ }
-    ensures { λ r. ⌜ r ≡ firstEndless g (now (codes .entry)) ⌝ }
-{
-    let n = g.rows * g.cols;
-    receivers::receivers_from(g, codes, tail);
-    walk::walk(n, tail)
-}
-
 // Whether a start stands where there is no code.
 fn is_stray(code: u8, start: u32) -> bool
     ensures { λ r. ⌜ r ≡ (eqb code 0 && ltb 0 start) ⌝ }
@@ -147,32 +134,18 @@ fn routes_check(g: Grid, codes: &[u8], starts: &[u32], tail: &mut [u32]) -> Answ
     ensures { λ r. ⌜ r
         ≡ askCodes g (now (codes .entry)) (askCell 13 g (firstBadStart g (now (codes .entry)) (now (starts .entry))) accepted) ⌝ }
 {
-    let given = codes.len();
-    let bad = receivers::first_bad_code(g, codes);
-    if bad < given {
-        return Answer {
-            number: 11,
-            place: bad as u32,
-        };
-    }
-    let endless = first_endless(g, codes, tail);
-    if endless < given {
-        return Answer {
-            number: 12,
-            place: endless as u32,
-        };
+    let answer = code_check::codes_check(g, codes, tail);
+    if answer.number != 0 {
+        return answer;
     }
     let stray = first_bad_start(g, codes, starts);
-    if stray < given {
+    if stray < codes.len() {
         return Answer {
             number: 13,
             place: stray as u32,
         };
     }
-    Answer {
-        number: 0,
-        place: 0,
-    }
+    answer
 }
 
 // Questions 11 to 13, and after a yes the watersheds.

@@ -6,8 +6,8 @@ use borrow.Author.Needs.{needs}
 use denote.Ref.{now}
 use Rattle.grid.specs.Sheet.{size}
 use Rattle.labelling.proofs.Sheet.{marks, first-endless}
-use Rattle.watershed_walk.proofs.first_endless.Statement.{statement}
-use Rattle.watershed_walk.proofs.first_endless.Tie as tie
+use Rattle.code_check.proofs.first_endless.Statement.{statement}
+use Rattle.code_check.proofs.first_endless.Tie as tie
 
 mul-n : tie.Need-mul-n
 mul-n c = search needs

@@ -1,0 +1,2 @@
+-- What is asked about a lent sheet of codes.
+pub mod Asked
