@@ -10,7 +10,8 @@
  * side: those lines have the library's own fill, and its own one call, in the baseline's place. The culvert lies at the elevation of
  * its cell, so that its results are those of the one call. The line "oblong" is the directions call with cells of 3 by 4 beside the same
  * with square ones, whose codes must be those of any square cells. The line "closed" is the one call with the south side alone open; of
- * its results no more is looked at than that nothing is filled lower than with every side open.
+ * its results no more is looked at than that nothing is filled lower than with every side open. The line "run" is a run without a turn,
+ * which asks 11 and 12, beside the labels call, which asks them too; the line "turns" is of a small sheet of its own.
  */
 #define main baseline_main
 #include "baseline.c"
@@ -67,6 +68,69 @@ static void line(const char *name, const char *against, double a, double b, doub
 static void least(double *best, double t)
 {
     if (t < *best) *best = t;
+}
+
+/* the best of some runs with so many turns, each from the same state */
+static double least_run(struct sheet s, const uint8_t *code, uint16_t turns, const tervuola_crews *begun, uint32_t *work, int runs, int times)
+{
+    double best = 1e300;
+    for (int run = 0; run < runs; run++) {
+        double t = 0;
+        for (int k = 0; k < times; k++) {
+            tervuola_crews crews = *begun;
+            double a = now();
+            accepted(tervuola_run(s.rows, s.cols, code, s.cells, turns, &crews, work, tervuola_work_size(s.rows, s.cols)));
+            t += now() - a;
+        }
+        least(&best, t);
+    }
+    return best;
+}
+
+/* turns as an expert's C takes them, on the library's state */
+static void take_turns(struct sheet s, const uint8_t *code, unsigned turns, tervuola_crews *crews)
+{
+    static const int down[8] = { -1, 0, 1, 1, 1, 0, -1, -1 }, right[8] = { 1, 1, 1, 0, -1, -1, -1, 0 };
+    uint64_t *w = crews->words;
+    for (; turns > 0; turns--) {
+        uint32_t k = (uint32_t)(w[64] % 32), cell = (uint32_t)w[32 + k];
+        w[64] = (k + 1) % 32;
+        if (w[k] != TERVUOLA_WAITING) continue;
+        int p = position(code[cell]);
+        uint32_t row = cell / s.cols + (uint32_t)down[p], col = cell % s.cols + (uint32_t)right[p], to = row * s.cols + col;
+        if (row < s.rows && col < s.cols && code[to]) w[32 + k] = to;
+        else w[k] = TERVUOLA_FINISHED;
+        w[65] += w[65] < UINT64_MAX;
+    }
+}
+
+/* One route over all of 64 by 64 cells, east, a row down, west and so on, and every crew at its beginning: 65,535 turns, each of which moves a
+ * trace, in nanoseconds a turn, less what the run takes without one. */
+static void turn_line(int runs)
+{
+    struct sheet s = { 64, 64, 64 * 64 };
+    static uint8_t code[64 * 64];
+    static uint32_t work[4 * 64 * 64];
+    tervuola_crews begun = {0}, ours, expert;
+    double best = 1e300;
+    for (uint32_t c = 0; c < s.cells; c++) {
+        int west = c / 64 % 2;
+        code[c] = c % 64 == (west ? 0 : 63) ? TERVUOLA_SOUTH : west ? TERVUOLA_WEST : TERVUOLA_EAST;
+    }
+    for (uint32_t crew = 0; crew < TERVUOLA_CREWS; crew++)
+        accepted(tervuola_hand_in(64, 64, code, s.cells, crew, 0, &begun, work, sizeof work / sizeof *work));
+    for (int run = 0; run < 10 * runs; run++) {
+        expert = begun;
+        double a = now();
+        take_turns(s, code, UINT16_MAX, &expert);
+        least(&best, now() - a);
+    }
+    ours = begun;
+    accepted(tervuola_run(64, 64, code, s.cells, UINT16_MAX, &ours, work, sizeof work / sizeof *work));
+    same("crews", "the state", &ours, &expert, sizeof ours);
+    double check = least_run(s, code, 0, &begun, work, 10 * runs, 1), turned = least_run(s, code, UINT16_MAX, &begun, work, 10 * runs, 1);
+    printf("  %-10s %-8s %7.2f  library %7.2f ns a turn  ratio %.2f\n", "turns", "expert's", best * 1e6 / UINT16_MAX, (turned - check) * 1e6 / UINT16_MAX,
+           (turned - check) / best);
 }
 
 int main(int argc, char **argv)
@@ -188,5 +252,8 @@ int main(int argc, char **argv)
     if (z[cell] != TERVUOLA_VOID) line("culvert", "one call", ours[B_ALL], opened, (double)n * times);
     line("oblong", "square", ours[B_DIR], oblong, (double)n * times);
     line("closed", "one call", ours[B_ALL], closed, (double)n * times);
+    tervuola_crews none = {0};
+    line("run", "labels", ours[B_LAB], least_run(s, code, 0, &none, work, runs, times), (double)n * times);
+    turn_line(runs);
     return 0;
 }
