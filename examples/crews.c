@@ -1,8 +1,8 @@
 /*
- * Where the water of each crew's cell leaves the sheet: crews TURNS CELL.. <sheet. The sheet is read as text (docs/FORMATS.md) from standard
- * input; crews 0, 1, 2 .. hand in the cells, each row * columns + column from 0, up to 32 of them. Their routes are traced in runs of TURNS
- * turns, as a screen would that has something else to do between them. Prints after each run what each crew gets that has not collected yet,
- * and at the end the number of turns that moved or finished a trace.
+ * Where the water of each crew's cell leaves the sheet: crews TURNS CELL.. <sheet. The sheet is read as text (docs/FORMATS.md) from
+ * standard input; crews 0, 1, 2 .. hand in the cells, each row * columns + column from 0, up to 32 of them. Their routes are traced in
+ * runs of TURNS turns, as a screen would that has something else to do between them. Prints after each run what each crew gets that has
+ * not collected yet, and at the end the number of turns that moved or finished a trace.
  */
 #include "tervuola.h"
 #include <stdio.h>

@@ -154,8 +154,8 @@ typedef struct {
 /*
  * The traces of 32 crews, numbered 0 to 31. The state is the caller's: {0} begins, with no trace, crew 0 next and a total of 0; a copy
  * goes on by itself, and calls at the same time must not share one. Every content is a state. Words 0 to 31 have for each crew 1 for a
- * trace on its way, 2 for a finished one, and any other number for none (a caller may so give up a trace); 32 to 63 the cell that it
- * stands on, in their low 32 bits; 64 the crew whose turn is next, by its remainder by 32; 65 the total.
+ * trace on its way, 2 for a finished one, and any other number for none (writing 0 there gives up the trace); 32 to 63 the cell that
+ * it stands on, in their low 32 bits; 64 the crew whose turn is next, by its remainder by 32; 65 the total.
  */
 typedef struct {
     uint64_t words[66];
@@ -396,12 +396,13 @@ tervuola_answer tervuola_hand_in(uint32_t rows, uint32_t cols,
  * Turns, which go round the crews by number and carry on where the last run stopped. A turn moves that crew's trace one cell down, or
  * finishes it at its last cell; with no trace, or a finished one, it does nothing. The total grows by one for each turn that moves or
  * finishes a trace, and stays at 2^64 - 1 once there. A trace whose route has r cells is finished within 32 * r turns of being handed
- * in, if the traces began with none handed in and every hand-in and run since has lent the same sheet of codes. Another sheet may be
- * lent: the traces go on from where they stand, and a run gets 23, and takes no turn, where one that is not finished stands off that
- * sheet or on a cell with code 0.
- * codes: rows * cols. turns: 0 to 65,535. crews: the state. work: at least 4 * rows * cols.
+ * in (a refused run takes none), if every hand-in and run since has lent the same sheet of codes; and if the state began with no trace
+ * handed in, no run on that sheet gets 23. Another sheet may be lent: the traces go on from where they stand, and a run gets 23, and
+ * takes no turn, where one that is not finished stands off that sheet or on a cell with code 0.
+ * codes: rows * cols. turns: 0 to 65,535, of 16 bits: C cuts a larger number, and a route of more than 2,047 cells may need more than one
+ * run. crews: the state. work: at least 4 * rows * cols.
  * Numbers: 5 6 7 9 11 12 23, also with 0 turns. Promise: RunPromise; what is shown of lists of calls: Operations.antt. 11 and 12 are
- * linear in the number of cells, and a turn takes the same time on every sheet: a few long runs cost less than many short ones.
+ * linear in the number of cells, and a turn takes constant time: a few long runs cost less than many short ones.
  */
 tervuola_answer tervuola_run(uint32_t rows, uint32_t cols,
                              const uint8_t *codes, size_t codes_len,
@@ -413,12 +414,12 @@ tervuola_answer tervuola_run(uint32_t rows, uint32_t cols,
  * A crew asks for its trace. A finished one is collected: its last cell is given, and the crew is free to hand in the next. For one
  * on its way the status says that it is waiting, for none that there is no trace, both with number 0, and nothing changes.
  * crew: 0 to 31. crews: the state.
- * Numbers: 21. Promise: CollectPromise; where one sheet of codes was lent throughout, cell + 1 is the basin label of the cell that was
- * handed in (CollectsOutlet in Operations.antt).
+ * Numbers: 21. Promise: CollectPromise; where the state began with no trace and one sheet of codes was lent throughout, cell + 1 is the
+ * basin label of the cell that was handed in (CollectsOutlet in Operations.antt).
  */
 tervuola_collected tervuola_collect(uint32_t crew, tervuola_crews *crews);
 
-/* The total: how many turns have moved or finished a trace. */
+/* The total: how many turns have moved or finished a trace since {0}, at most 2^64 - 1. */
 static inline uint64_t tervuola_turns_worked(const tervuola_crews *crews)
 {
     return crews->words[65];

@@ -1,4 +1,4 @@
--- What a call that lends codes and a work buffer alone is answered first.
+-- What a call that is lent no sheet but codes is answered first.
 use mathlib.Core.Path.{_≡_}
 use mathlib.Core.List.{List, [], _∷_}
 use Prim.Native.Nat.{ℕ}

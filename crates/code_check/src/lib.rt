@@ -1,5 +1,5 @@
-// Questions 11 and 12 about a lent sheet of codes, by way of a lent tail, and with them the questions of a call that is lent nothing but
-// codes and a work buffer: 5, 6, 7, 9, 11 and 12.
+// Questions 11 and 12 about a lent sheet of codes, by way of a lent tail, and with them the questions of a call that is lent no sheet but
+// codes: 5, 6, 7, 9, 11 and 12.
 use grid::Answer;
 use grid::Grid;
 ghost use mathlib.Core.Path.{_≡_};

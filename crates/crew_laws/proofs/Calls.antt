@@ -25,7 +25,7 @@ zeros-begin =
     record {
       no-traces = record { long = length-replicate {A = ℕ} 66 0; none = λ k h. rw (zeros-at k (omega arith)) };
       first-crew = refl;
-      no-turns = refl;
+      no-total = refl;
     }
 
 pub calls-are-operations : CallsAreOperations
@@ -37,7 +37,7 @@ calls-are-operations =
         p .state ∙ ap (λ (a : Answer). cond (isAccepted a) (handedIn s crew cell) s) (p .answer),
       );
       runs = λ g codes n s t w v r p. (p .answer, p .state ∙ ap (λ (a : Answer). cond (isAccepted a) (turns g codes n s) s) (p .answer));
-      collects = λ g codes crew s t r p. (ap ofCollected (p .answer), p .state);
+      collects = λ g codes crew s t r p. (p .answer, p .state);
     }
 
 -- the answer to a collection is a no only for a crew that is none

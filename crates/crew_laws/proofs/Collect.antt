@@ -1,5 +1,5 @@
 -- What is collected: along any list of operations a crew has no trace, or one that ends at the last cell of the route from the cell that it
--- handed in last.
+-- handed in last; so no trace is ever lost.
 use mathlib.Core.Path.{_≡_, refl, sym, _∙_, ap, subst}
 use mathlib.Core.Bool.{Bool, true, false, cond, _&&_, _||_}
 use mathlib.Core.Logic.{_⊎_, inl, inr, ⊎-elim}
@@ -17,13 +17,15 @@ use Rattle.grid.specs.Routes.{hasCode, route, labelAt}
 use Rattle.grid.specs.Checks.{isAccepted}
 use Rattle.grid.specs.Crews.{noTrace, waiting, finished, statusOf, standsOn, isOnWay, isFinished, hasTrace, turn, turns, handInCheck}
 use Rattle.grid.specs.Crews.{handedIn, runCheck, collected, freed}
-use Rattle.grid.specs.Operations.{Operation, run, hand-in, collect, after, afterAll, turnsIn, handsIn, handsInAll, OutletOf, CollectsOutlet}
+use Rattle.grid.specs.Operations.{Operation, run, hand-in, collect, after, afterAll, turnsIn, handsIn, handsInAll, OutletOf}
+use Rattle.grid.specs.Operations.{CollectsOutlet, NeverLost}
 use Rattle.grid_laws.proofs.Tests.{test, true-false, cond-true, and-true, or-none-left, or-none-right}
 use Rattle.crew_laws.specs.Going.{OnItsWay, Arrived, Within}
 use Rattle.crew_laws.proofs.Turns.{idle-status}
 use Rattle.crew_laws.proofs.Changes.{handed-in, handed-status, freed-early, freed-status}
 use Rattle.crew_laws.proofs.Along.{length-after, along-run, along-hand-in, none-handed, along-collect}
 use Rattle.crew_laws.proofs.Finish.{begins}
+use Rattle.crew_laws.proofs.Keeps.{none-lost}
 
 last-join : (l m : List ℕ) (b : ℕ) → lastOf (l ++ m) b ≡ lastOf m (lastOf l b)
 unfolding lastOf
@@ -211,3 +213,21 @@ collects-outlet g codes s none l k b e =
     subst (OutletOf g codes (lastOf (handsInAll g codes k s l) b)) (sym (f .2))
     (outlet g codes k (f .0) t (lastOf (handsInAll g codes k s l) b)
     (all-operations g codes k (f .0) l s b (none .long) (inl (none .none k (f .0)))) (f .1))
+
+-- ---- no run gets 23: a trace on its way stands on a cell of a route
+
+going-on : (g : Grid) (codes : List ℕ) (k : ℕ) (small : k < 32) (s : List ℕ) (c : ℕ) → FreeOr g codes k small s c →
+    statusOf s k ≡ waiting → hasCode codes (standsOn s k) ≡ true
+going-on g codes k small s c (inl f) e = absurd (not-waiting s k f e)
+going-on g codes k small s c (inr f) e = go (f .within .1)
+  where
+    go : OnItsWay g codes s k (lastOf (route g codes c) c) (f .turns-left) ⊎ Arrived g codes s k (lastOf (route g codes c) c) →
+        hasCode codes (standsOn s k) ≡ true
+    go (inl o) = o .ends .0
+    go (inr a) = let q = a .status in let z : ⊥ = omega arith in absurd z
+
+pub never-lost : NeverLost
+never-lost g codes s none l =
+    none-lost codes (afterAll g codes s l)
+    (λ k h e. going-on g codes k h (afterAll g codes s l) (lastOf (handsInAll g codes k s l) 0)
+    (all-operations g codes k h l s 0 (none .long) (inl (none .none k h))) e)

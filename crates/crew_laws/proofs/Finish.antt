@@ -1,5 +1,5 @@
--- Every trace is finished in time, whatever else happens: at its hand-in it stands one cell of its route before each of those left, so
--- that it is within 32 turns a cell of its end (`begins`), and `Along` carries that through any list of operations.
+-- Every trace is finished in time, whatever else happens: at its hand-in a trace has its whole route before it, and so at most 32 turns for
+-- each of its cells (`begins`), and `Along` carries that through any list of operations.
 use mathlib.Core.Path.{_≡_, sym, _∙_, ap, subst}
 use mathlib.Core.Bool.{true, not}
 use mathlib.Core.Logic.{_⊎_, inl, inr, ⊎-elim}

@@ -1,4 +1,4 @@
--- Whose turn is next, and the total, after any list of operations; a run cut in two.
+-- Whose turn is next, and the total, after any list of operations.
 use mathlib.Core.Path.{_≡_, refl, sym, _∙_, ap}
 use mathlib.Core.Bool.{Bool, true, false, cond, _&&_}
 use mathlib.Core.Logic.{_⊎_, inl, inr, ⊎-elim}
@@ -15,7 +15,7 @@ use Rattle.grid.specs.Routes.{hasCode, receiver}
 use Rattle.grid.specs.Crews.{nextCrew, totalOf, largest, isOnWay, counted, stepped, turnOf, turn, turns, handedIn, freed, handInCheck}
 use Rattle.grid.specs.Crews.{runCheck}
 use Rattle.grid.specs.Operations.{Operation, run, hand-in, collect, after, afterAll, turnsIn, turnsInAll, busyTurns, busyIn, busyInAll}
-use Rattle.grid.specs.Operations.{TurnsGoRound, TurnsSplit, TotalCounts}
+use Rattle.grid.specs.Operations.{TurnsGoRound, TotalCounts}
 use Rattle.grid_laws.proofs.Tests.{test, true-false, cond-true, cond-false, and-left}
 use Rattle.crew_laws.proofs.Turns.{put-other, stepped-away, length-stepped, length-turns, next-turn}
 use Rattle.crew_laws.proofs.Changes.{handed-in, handed-at, handed-next, freed-at, freed-next}
@@ -118,10 +118,3 @@ turns-go-round g codes s long l = next-all g codes s long l
 
 pub total-counts : TotalCounts
 total-counts g codes s long h l = total-all g codes s long h l
-
-pub turns-split : TurnsSplit
-unfolding turns
-turns-split g codes s a zero = ap (λ (n : ℕ). turns g codes n s) (let e : a + 0 ≡ a = omega arith in e)
-turns-split g codes s a (suc b) =
-    ap (λ (n : ℕ). turns g codes n s) (let e : a + suc b ≡ suc (a + b) = omega arith in e)
-    ∙ ap (turn g codes) (turns-split g codes s a b)

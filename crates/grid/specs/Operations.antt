@@ -14,7 +14,7 @@ use Rattle.grid.specs.Below.{lastOf}
 use Rattle.grid.specs.Routes.{route, labelAt}
 use Rattle.grid.specs.Checks.{isAccepted, ofCollected}
 use Rattle.grid.specs.Crews.{finished, isOnWay, isFinished, hasTrace, standsOn, nextCrew, totalOf, largest, turns, handInCheck}
-use Rattle.grid.specs.Crews.{handedIn, runCheck, collected, freed}
+use Rattle.grid.specs.Crews.{handedIn, firstLost, runCheck, collected, freed}
 use Rattle.grid.specs.Promises.{HandInPromise, RunPromise, CollectPromise}
 
 -- ---- lists of operations
@@ -82,12 +82,12 @@ module _ (g : Grid) (codes : List ℕ) where
     pub is-finished : isFinished s k ≡ true
     pub last : standsOn s k ≡ lastOf (route g codes c) c
 
-  -- the trace that crew k handed in at c, in the state s, stands finished after the operations l: crew k hands in no other by then
+  -- the trace that crew k has in the state s, handed in at c, stands finished after the operations l: crew k has handed in no other by then
   pub record StandsFinished (s : List ℕ) (k c : ℕ) (l : List Operation) : Type 0 where
     pub no-other : handsInAll k s l ≡ []
     pub from : FinishedFrom (afterAll s l) k c
 
-  -- one of the operations l collects it so
+  -- one of the operations l is its collection, and right before that it stands finished
   pub record IsCollected (s : List ℕ) (k c : ℕ) (l : List Operation) : Type 0 where
     pub earlier : List Operation
     pub later : List Operation
@@ -118,10 +118,10 @@ zeros = replicate 66 0
 pub record ZerosBegin : Type 0 where
   pub no-traces : NoTraces zeros
   pub first-crew : nextCrew zeros ≡ 0
-  pub no-turns : totalOf zeros ≡ 0
+  pub no-total : totalOf zeros ≡ 0
 
--- what the three calls answer and leave is what the operations do, by their promises: what is shown of lists of operations is shown of lists
--- of calls
+-- what the three calls answer and leave is what the operations do, by their promises: what is shown of lists of operations is shown of
+-- lists of calls
 pub record CallsAreOperations : Type 0 where
   pub hands-in : (g : Grid) (codes : List ℕ) (crew cell : ℕ) (crews₀ crews₁ work₀ work₁ : List ℕ) (r : Answer) →
       HandInPromise g codes crew cell crews₀ crews₁ work₀ work₁ r →
@@ -130,7 +130,7 @@ pub record CallsAreOperations : Type 0 where
       RunPromise g codes n crews₀ crews₁ work₀ work₁ r →
       (r ≡ answerTo g codes crews₀ (run (length work₀) n)) × (crews₁ ≡ after g codes crews₀ (run (length work₀) n))
   pub collects : (g : Grid) (codes : List ℕ) (crew : ℕ) (crews₀ crews₁ : List ℕ) (r : Collected) → CollectPromise crew crews₀ crews₁ r →
-      (ofCollected r ≡ answerTo g codes crews₀ (collect crew)) × (crews₁ ≡ after g codes crews₀ (collect crew))
+      (r ≡ collected crews₀ crew) × (crews₁ ≡ after g codes crews₀ (collect crew))
 
 -- "A refused call changes nothing outside the work buffer"; "a refused run takes no turns"
 abbrev pub RefusedDoesNothing : Type 0
@@ -154,9 +154,17 @@ FinishesAtTurn =
     32 * length (route g codes c) ≤ turnsInAll g codes s l + a →
     ((handsInAll g codes k s l ≡ []) × FinishedFrom g codes (turns g codes a (afterAll g codes s l)) k c) ⊎ IsCollected g codes s k c l
 
--- turns are taken one after the other: a run may be cut at any turn, and goes on from there as two runs would
-abbrev pub TurnsSplit : Type 0
-TurnsSplit = (g : Grid) (codes s : List ℕ) (a b : ℕ) → turns g codes (a + b) s ≡ turns g codes b (turns g codes a s)
+-- "carry on where the last run stopped": turns are taken one after the other, and a run may be cut at any of them and goes on from there as
+-- two runs do; where it is refused, so are they
+pub record RunsSplit : Type 0 where
+  pub by-turns : (g : Grid) (codes s : List ℕ) (a b : ℕ) → turns g codes (a + b) s ≡ turns g codes b (turns g codes a s)
+  pub by-runs : (g : Grid) (codes s : List ℕ) (work a b : ℕ) →
+      after g codes s (run work (a + b)) ≡ afterAll g codes s (run work a ∷ run work b ∷ [])
+
+-- on one sheet, from no trace, no run gets 23: what is asked before it alone can refuse the turns that a trace waits for
+abbrev pub NeverLost : Type 0
+NeverLost =
+    (g : Grid) (codes s : List ℕ) → NoTraces s → (l : List Operation) → firstLost codes (afterAll g codes s l) ≡ 32
 
 -- "hand in a cell each and later collect the outlet it drains to": what crew k collects is the last cell of the route from the cell c that
 -- it handed in last, and the cell that c's basin label names
@@ -177,7 +185,8 @@ TurnsGoRound =
     (g : Grid) (codes s : List ℕ) → length s ≡ 66 → (l : List Operation) →
     nextCrew (afterAll g codes s l) ≡ (nextCrew s + turnsInAll g codes s l) % 32
 
--- "One 64-bit total .. grows by one for each turn that moves or finishes a trace, and stays at the largest 64-bit number once there"
+-- "One 64-bit total .. grows by one for each turn that moves or finishes a trace, and stays at the largest 64-bit number once there". An
+-- array of 66 numbers of 64 bits meets both conditions
 abbrev pub TotalCounts : Type 0
 TotalCounts =
     (g : Grid) (codes s : List ℕ) → length s ≡ 66 → totalOf s ≤ largest → (l : List Operation) →

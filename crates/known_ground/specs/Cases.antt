@@ -231,9 +231,9 @@ collectedIn s crew =
     c .number ∷ c .place ∷ c .status ∷ c .cell ∷ []
 
 -- for a hand-in, and for a run, on the streams
-handedIn : ℕ → ℕ → ℕ → List ℕ → List ℕ
+handIn : ℕ → ℕ → ℕ → List ℕ → List ℕ
 unfolding streams numberAndPlace
-handedIn work crew cell s = numberAndPlace (handInCheck (gridOf 1 4) streams work crew cell s)
+handIn work crew cell s = numberAndPlace (handInCheck (gridOf 1 4) streams work crew cell s)
 
 runIn : ℕ → List ℕ → List ℕ
 unfolding streams numberAndPlace
@@ -244,7 +244,7 @@ runIn work s = numberAndPlace (runCheck (gridOf 1 4) streams work s)
 unfoldable pub knownGround : List Case
 unfolding printed-input printed-output voids between middle basin hole pools poolNumbers bank opened-bank cut eastward corners
     corners-read corners-written numberAndPlace culvertIn writeIn listsIn codeAmid shapeIn basinCodes openedCodes eastwardCodes
-    streams crewsAfter traced standing collectedIn handedIn runIn
+    streams crewsAfter traced standing collectedIn handIn runIn
 knownGround =
     -- P1: the printed example, from text to text
     numbers (programText printed-input) printed-output
@@ -394,17 +394,21 @@ knownGround =
     ∷ numbers (collectedIn (crewsAfter (hand-in 16 0 0 ∷ run 16 32 ∷ collect 0 ∷ [])) 0) (0 ∷ 0 ∷ 1 ∷ 0 ∷ [])
     -- the total stays at the largest number
     ∷ numbers (totalOf (afterAll (gridOf 1 4) streams (set zeros 65 largest) (traced 32 32)) ∷ []) (largest ∷ [])
-    -- 9 before 21 to 23; 21 before 22, finished or not, before 23; a void and what is off the sheet get 23
-    ∷ numbers (handedIn 16 1 3 zeros) (0 ∷ 0 ∷ [])
-    ∷ numbers (handedIn 15 32 2 zeros) (9 ∷ 0 ∷ [])
-    ∷ numbers (handedIn 16 32 2 zeros) (21 ∷ 0 ∷ [])
-    ∷ numbers (handedIn 16 0 2 (crewsAfter (traced 1 0))) (22 ∷ 0 ∷ [])
-    ∷ numbers (handedIn 16 31 3 (crewsAfter (traced 32 0))) (22 ∷ 0 ∷ [])
-    ∷ numbers (handedIn 16 1 2 zeros) (23 ∷ 0 ∷ [])
-    ∷ numbers (handedIn 16 1 4 zeros) (23 ∷ 0 ∷ [])
+    -- 9, 11 and 12 before 21 to 23; 21 before 22, finished or not, before 23; a void and what is off the sheet get 23
+    ∷ numbers (handIn 16 1 3 zeros) (0 ∷ 0 ∷ [])
+    ∷ numbers (handIn 15 32 2 zeros) (9 ∷ 0 ∷ [])
+    ∷ numbers (handIn 16 32 2 zeros) (21 ∷ 0 ∷ [])
+    ∷ numbers (handIn 16 32 3 (set zeros 32 1)) (21 ∷ 0 ∷ [])
+    ∷ numbers (handIn 16 0 2 (crewsAfter (traced 1 0))) (22 ∷ 0 ∷ [])
+    ∷ numbers (handIn 16 31 3 (crewsAfter (traced 32 0))) (22 ∷ 0 ∷ [])
+    ∷ numbers (handIn 16 1 2 zeros) (23 ∷ 0 ∷ [])
+    ∷ numbers (handIn 16 1 4 zeros) (23 ∷ 0 ∷ [])
+    ∷ numbers (numberAndPlace (handInCheck (gridOf 1 2) (2 ∷ 3 ∷ []) 8 32 5 zeros)) (11 ∷ 1 ∷ [])
+    ∷ numbers (numberAndPlace (handInCheck (gridOf 1 2) (2 ∷ 32 ∷ []) 8 32 5 zeros)) (12 ∷ 0 ∷ [])
+    ∷ numbers (numberAndPlace (runCheck (gridOf 1 2) (2 ∷ 32 ∷ []) 8 (set (set zeros 9 1) 41 5))) (12 ∷ 0 ∷ [])
     -- a run's 23: the lowest crew whose unfinished trace stands on a void or off the sheet; a finished one may stand there
     ∷ numbers (runIn 16 (crewsAfter (traced 31 1))) (0 ∷ 0 ∷ [])
-    ∷ numbers (runIn 16 (set (set (set zeros 9 1) 41 2) 7 2)) (23 ∷ 9 ∷ [])
+    ∷ numbers (runIn 16 (set (set (set (set zeros 9 1) 41 2) 7 2) 39 2)) (23 ∷ 9 ∷ [])
     ∷ numbers (runIn 16 (set (set (set (set zeros 9 1) 41 2) 7 1) 39 4)) (23 ∷ 7 ∷ [])
     ∷ numbers (runIn 16 (set (set zeros 9 2) 41 2)) (0 ∷ 0 ∷ [])
     ∷ numbers (runIn 15 (set (set zeros 9 1) 41 2)) (9 ∷ 0 ∷ [])

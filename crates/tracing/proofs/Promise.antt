@@ -12,10 +12,10 @@ use Rattle.grid.specs.declared.Answer.{Answer}
 use Rattle.grid.specs.Sheet.{size}
 use Rattle.grid.specs.Routes.{hasCode, firstBadCode, firstEndless}
 use Rattle.grid.specs.Checks.{accepted, refusal, ask, askSheets, askWork, askCodes}
-use Rattle.grid.specs.Crews.{hasTrace, isOnWay, standsOn, askTrace, handInCheck, handedIn, firstLost, askLost, runCheck, turns}
+use Rattle.grid.specs.Crews.{hasTrace, askTrace, handInCheck, handedIn, firstLost, askLost, runCheck, turns}
 use Rattle.grid.specs.Promises.{resultOf, WorkBuffer, HandInPromise, RunPromise}
-use Rattle.grid_laws.proofs.Tests.{cond-true, cond-false, not-is-false, and-rest-false}
-use Rattle.grid_laws.proofs.Below.{first-all, first-≤}
+use Rattle.grid_laws.proofs.Tests.{cond-true, cond-false}
+use Rattle.grid_laws.proofs.Below.{first-≤}
 use Rattle.route_laws.specs.Receivers.{AllCodes}
 use Rattle.checks.proofs.Gate.{Gate, both, kept, passed, answered-no, answered-yes, is-accepted}
 use Rattle.checks.proofs.Asked.{Sized, check-gate}
@@ -24,7 +24,7 @@ use Rattle.receivers.proofs.Codes.{all-codes}
 use Rattle.code_check.specs.Asked.{CodesAsked}
 use Rattle.crew_laws.specs.Standing.{OnSheet, Standing}
 use Rattle.crew_laws.proofs.Changes.{trace-gate}
-use Rattle.tracing.proofs.Traces.{isLost}
+use Rattle.crew_laws.proofs.Keeps.{isLost, standing-of}
 
 -- ---- 21 to 23 are asked when the work buffer may be written
 one-late : (holds : Bool) (number place : ℕ) (later : Answer) → Late (refusal number place) → Late later →
@@ -101,15 +101,12 @@ module _ (g : Grid) (codes w₀ w₁ : List ℕ) (r : Answer) (asked : CodesAske
           }
 
       module _ (none : 32 ≤ lost) where
-        none-lost : firstLost codes s ≡ 32
+        nobody : firstLost codes s ≡ 32
         unfolding firstLost
-        none-lost = let h = first-≤ 32 (isLost codes s) in omega arith
+        nobody = let h = first-≤ 32 (isLost codes s) in omega arith
 
         pub standing : Standing codes s
-        unfolding firstLost isOnWay
-        standing k h e =
-            let q = first-all 32 (isLost codes s) none-lost k h in
-            not-is-false (hasCode codes (standsOn s k)) (and-rest-false (isOnWay s k) (not (hasCode codes (standsOn s k))) (eq-eqb _ _ e) q)
+        standing = standing-of codes s nobody
 
         pub answered-run : (t : List ℕ) → t ≡ turns g codes n s → RunPromise g codes n s t w₀ w₁ r
         unfolding runCheck askLost
@@ -117,7 +114,7 @@ module _ (g : Grid) (codes w₀ w₁ : List ℕ) (r : Answer) (asked : CodesAske
             record {
               answer =
                   is-accepted before-21 (asked .answer) yes
-                  ∙ sym (cond-true accepted (refusal 23 (firstLost codes s)) (eq-eqb (firstLost codes s) 32 none-lost))
+                  ∙ sym (cond-true accepted (refusal 23 (firstLost codes s)) (eq-eqb (firstLost codes s) 32 nobody))
                   ∙ answered-yes before-21 (asked .answer) yes (askLost codes s accepted);
               state = q ∙ sym (cond-true (turns g codes n s) s (eq-eqb (r .number) 0 yes));
               work = asked .work;

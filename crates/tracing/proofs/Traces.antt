@@ -17,6 +17,7 @@ use Rattle.grid.specs.Crews.{noTrace, waiting, finished, statusOf, standsOn, is
 use Rattle.grid.specs.Crews.{collected, freed}
 use Rattle.grid_laws.proofs.Tests.{cond-true, cond-false, and-true, and-false-left, and-false-right, or-left, not-of-true, not-of-false}
 use Rattle.grid_laws.proofs.Below.{first-is, first-none}
+use Rattle.crew_laws.proofs.Keeps.{isLost}
 
 module _ (s : List ℕ) (k : ℕ) where
   -- ---- a trace
@@ -96,9 +97,6 @@ unfolding handedIn
 stored s k cell = refl
 
 -- ---- 23 of a run
-abbrev pub isLost : List ℕ → List ℕ → ℕ → Bool
-isLost codes s k = isOnWay s k && not (hasCode codes (standsOn s k))
-
 module _ (codes s : List ℕ) (k : ℕ) where
   pub lost-idle : (statusOf s k ≡ waiting → ⊥) → false ≡ isLost codes s k
   unfolding isOnWay

@@ -10,7 +10,7 @@ ghost use Prim.Native.Nat.{min, _+_, _%_, _<_, _≤_, _^_};
 ghost use lib.ListN.{length, getD, set};
 ghost use Rattle.grid.specs.Sheet.{size};
 ghost use Rattle.grid.specs.Routes.{hasCode, receiver};
-ghost use Rattle.grid.specs.Crews.{statusOf, standsOn, nextCrew, largest, counted, stepped, turnOf, turn, turns};
+ghost use Rattle.grid.specs.Crews.{finished, standsOn, largest, counted, stepped, turnOf, turn, turns};
 ghost use Rattle.route_laws.specs.Receivers.{AllCodes};
 ghost use Rattle.crew_laws.specs.Standing.{Standing, OnSheet};
 
@@ -53,14 +53,16 @@ fn count_turn(crews: &mut [u64; 66])
     crews[65] = one_more(crews[65]);
 }
 
+// The trace of crew `k` is finished where it stands.
 fn finish(crews: &mut [u64; 66], k: usize)
     requires { ⌜ k < 32 ⌝ }
-    ensures { λ _. ⌜ now (crews .exit) ≡ counted (set (now (crews .entry)) k 2) ⌝ }
+    ensures { λ _. ⌜ now (crews .exit) ≡ counted (set (now (crews .entry)) k finished) ⌝ }
 {
     crews[k] = 2;
     count_turn(crews);
 }
 
+// It stands on the next cell.
 fn move_to(crews: &mut [u64; 66], k: usize, next: usize)
     requires { ⌜ k < 32 ⌝ }
     ensures { λ _. ⌜ now (crews .exit) ≡ counted (set (now (crews .entry)) (32 + k) next) ⌝ }

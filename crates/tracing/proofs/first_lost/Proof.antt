@@ -4,7 +4,7 @@ use Prim.Native.Nat.{_-_, _≤_}
 use native.Mathlib.Omega.{arith}
 use denote.Ref.{now}
 use borrow.Author.Count.{below-more}
-use Rattle.tracing.proofs.Traces.{isLost, NoneLost, lost-here, lost-nowhere}
+use Rattle.tracing.proofs.Traces.{NoneLost, lost-here, lost-nowhere}
 use borrow.Author.Needs.{needs}
 use Rattle.tracing.proofs.first_lost.Statement.{statement}
 use Rattle.tracing.proofs.first_lost.Tie as tie

@@ -3,6 +3,7 @@ use mathlib.Core.Path.{_≡_, _∙_, ap, sym, subst}
 use mathlib.Core.List.{List}
 use Prim.Native.Nat.{ℕ, _+_, _-_, _≤_}
 use native.Mathlib.Omega.{arith}
+use lib.ListN.{length}
 use Rattle.grid.specs.Crews.{turns}
 use Rattle.crew_laws.specs.Standing.{Standing}
 use Rattle.crew_laws.proofs.Keeps.{still-standing}
@@ -33,10 +34,14 @@ loop-again : tie.Need-loop-again Inv-loop μ-loop
 loop-again c =
     let s = c .before .before .before .before .before in
     let l = c .before .before .before .loop in
-    let e = c .take-turn .ensures in (
+    let e = c .take-turn .ensures in
+    let on = s .pre .0 in
+    let n = on .few in
+    let m = on .long in
+    let few : length (s .args .codes .now) ≤ 4294967296 = omega arith in (
       omega arith,
       one-turn (s .args .g) (s .args .codes .now) (l .i) (s .args .crews .now) (l .crews) (c .take-turn .last .1 .1 .0) (l .inv .1) e,
-      subst (Standing (s .args .codes .now)) (sym e) (still-standing (s .args .g) (s .args .codes .now) (s .pre .0) (l .crews) (l .inv .2)),
+      subst (Standing (s .args .codes .now)) (sym e) (still-standing (s .args .g) (s .args .codes .now) few (l .crews) (l .inv .2)),
     )
 
 returns : tie.Need-returns Inv-loop μ-loop
