@@ -81,12 +81,13 @@ number-late number h t =
 pub yes-late : Late accepted
 yes-late = yes-is-late refl
 
+pub ask-late : (holds : Bool) (number place : ℕ) (later : Answer) → T (isLate number) → Late later →
+    Late (ask holds (refusal number place) later)
+ask-late true number place later n L = L
+ask-late false number place later n L = number-late number n
+
 pub cell-late : (number first : ℕ) (g : Grid) (later : Answer) → T (isLate number) → Late later → Late (askCell number g first later)
-cell-late number first g later n L = go (eqb first (size g))
-  where
-    go : (holds : Bool) → Late (ask holds (refusal number first) later)
-    go true = L
-    go false = number-late number n
+cell-late number first g later n L = ask-late (eqb first (size g)) number first later n L
 
 pub codes-late : (g : Grid) (codes : List ℕ) (later : Answer) → Late later → Late (askCodes g codes later)
 unfolding askCodes

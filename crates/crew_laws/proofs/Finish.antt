@@ -1,7 +1,7 @@
 -- Every trace is finished in time, whatever else happens: at its hand-in a trace has its whole route before it, and so at most 32 turns for
 -- each of its cells (`begins`), and `Along` carries that through any list of operations.
 use mathlib.Core.Path.{_≡_, sym, _∙_, ap, subst}
-use mathlib.Core.Bool.{true, not}
+use mathlib.Core.Bool.{true}
 use mathlib.Core.Logic.{_⊎_, inl, inr, ⊎-elim}
 use mathlib.Core.List.{List, [], _∷_, _++_}
 use Prim.Native.Nat.{ℕ, zero, suc, _+_, _-_, _*_, _%_, _≤_, _<_}
@@ -12,15 +12,15 @@ use borrow.Author.Tests.{eq-eqb}
 use Rattle.grid.specs.declared.Grid.{Grid}
 use Rattle.grid.specs.Below.{lastOf}
 use Rattle.grid.specs.Sheet.{size}
-use Rattle.grid.specs.Routes.{follow, endsBy, hasCode, receiver, route, firstEndless}
+use Rattle.grid.specs.Routes.{follow, hasCode, receiver, route, firstEndless}
 use Rattle.grid.specs.Crews.{waiting, finished, statusOf, standsOn, nextCrew, isFinished, turns, handedIn}
 use Rattle.grid.specs.Operations.{Operation, collect, after, afterAll, turnsInAll, handsInAll, FinishedFrom, IsCollected, JustHandedIn}
 use Rattle.grid.specs.Operations.{FinishesInTime, FinishesAtTurn}
-use Rattle.grid_laws.proofs.Tests.{true-false, cond-true, not-is-false}
-use Rattle.grid_laws.proofs.Below.{first-all}
+use Rattle.grid_laws.proofs.Tests.{true-false, cond-true}
 use Rattle.route_laws.specs.Ends.{EndsIn, Ends}
-use Rattle.route_laws.proofs.Routes.{ends-of, length-follow, enough, short}
+use Rattle.route_laws.proofs.Routes.{length-follow}
 use Rattle.route_laws.proofs.Receivers.{code-below}
+use Rattle.route_laws.proofs.Whole.{every-ends, whole}
 use Rattle.crew_laws.specs.Going.{wait, Arrived, Within}
 use Rattle.crew_laws.proofs.Turns.{wait-small, put-other}
 use Rattle.crew_laws.proofs.Nearer.{nearer-by, longer, at-end}
@@ -32,26 +32,17 @@ use Rattle.crew_laws.proofs.Along.{length-all, along}
 -- the route from a cell with a code, by the number of its cells
 route-cells : (g : Grid) (codes : List ℕ) (c : ℕ) → firstEndless g codes ≡ size g → length codes ≡ size g → hasCode codes c ≡ true →
     (r : ℕ) × EndsIn (hasCode codes) (receiver g codes) (suc r) c
-unfolding firstEndless
-route-cells g codes c e long t =
-    let b = code-below codes c t in
-    let q = first-all (size g) (λ d. not (endsBy (hasCode codes) (receiver g codes) (size g) d)) e c (omega arith) in
-    go (ends-of (hasCode codes) (receiver g codes) (size g) c (not-is-false _ q))
+route-cells g codes c e long t = go (every-ends g codes long e c)
   where
     go : Ends (hasCode codes) (receiver g codes) c → (r : ℕ) × EndsIn (hasCode codes) (receiver g codes) (suc r) c
     go (zero, a) = true-false t a
     go (suc r, a) = (r, a)
 
--- the whole route, and its last cell, by that number
+-- how many cells it has, and its last cell, by that number
 module _ (g : Grid) (codes : List ℕ) (c r : ℕ) (long : length codes ≡ size g)
     (e : EndsIn (hasCode codes) (receiver g codes) (suc r) c) where
-  whole : route g codes c ≡ follow (hasCode codes) (receiver g codes) (suc r) c
-  whole =
-      enough (hasCode codes) (receiver g codes) (suc r) (size g) c e
-      (short (hasCode codes) (receiver g codes) (size g) (λ d t. let b = code-below codes d t in omega arith) (suc r) c e)
-
   cells : length (route g codes c) ≡ suc r
-  cells = ap length whole ∙ length-follow (hasCode codes) (receiver g codes) (suc r) c e
+  cells = ap length (whole g codes long c (suc r) e) ∙ length-follow (hasCode codes) (receiver g codes) (suc r) c e
 
   -- whatever stands for the last of an empty list
   any-default : (d f : ℕ) → lastOf (follow (hasCode codes) (receiver g codes) (suc r) c) d
@@ -60,7 +51,7 @@ module _ (g : Grid) (codes : List ℕ) (c r : ℕ) (long : length codes ≡ size
   any-default d f = rw (e .0)
 
   last-any : (d : ℕ) → lastOf (follow (hasCode codes) (receiver g codes) (suc r) c) d ≡ lastOf (route g codes c) c
-  last-any d = any-default d c ∙ sym (ap (λ (l : List ℕ). lastOf l c) whole)
+  last-any d = any-default d c ∙ sym (ap (λ (l : List ℕ). lastOf l c) (whole g codes long c (suc r) e))
 
 pub begins : (g : Grid) (codes s : List ℕ) (k c : ℕ) → length s ≡ 66 → HandedIn g codes s k c →
     Within g codes (handedIn s k c) k (lastOf (route g codes c) c) (32 * length (route g codes c))

@@ -1,22 +1,17 @@
 -- Whose turn is next, and the total, after any list of operations.
-use mathlib.Core.Path.{_≡_, refl, sym, _∙_, ap}
-use mathlib.Core.Bool.{Bool, true, false, cond, _&&_}
-use mathlib.Core.Logic.{_⊎_, inl, inr, ⊎-elim}
+use mathlib.Core.Path.{_≡_, refl, _∙_, ap}
+use mathlib.Core.Bool.{Bool, true, false, cond}
 use mathlib.Core.List.{List, [], _∷_}
 use Prim.Native.Nat.{ℕ, zero, suc, min, _+_, _%_, _≤_, _<_}
 use native.Mathlib.Omega.{arith}
-use lib.Dec.{ltb}
-use lib.ListN.{length, getD, set, length-set}
+use lib.ListN.{length, getD, set}
 use lib.Seq.{getD-set-same}
-use borrow.Author.Tests.{ltb-true}
 use Rattle.grid.specs.declared.Grid.{Grid}
 use Rattle.grid.specs.Checks.{isAccepted}
-use Rattle.grid.specs.Routes.{hasCode, receiver}
 use Rattle.grid.specs.Crews.{nextCrew, totalOf, largest, isOnWay, counted, stepped, turnOf, turn, turns, handedIn, freed, handInCheck}
 use Rattle.grid.specs.Crews.{runCheck}
 use Rattle.grid.specs.Operations.{Operation, run, hand-in, collect, after, afterAll, turnsIn, turnsInAll, busyTurns, busyIn, busyInAll}
 use Rattle.grid.specs.Operations.{TurnsGoRound, TotalCounts}
-use Rattle.grid_laws.proofs.Tests.{test, true-false, cond-true, cond-false, and-left}
 use Rattle.crew_laws.proofs.Turns.{put-other, stepped-away, length-stepped, length-turns, next-turn}
 use Rattle.crew_laws.proofs.Changes.{handed-in, handed-at, handed-next, freed-at, freed-next}
 use Rattle.crew_laws.proofs.Along.{length-after}

@@ -10,38 +10,25 @@ use lib.ListN.{length, getD}
 use borrow.Author.Tests.{eq-eqb, lt-leb, ltb-true}
 use Rattle.grid.specs.declared.Grid.{Grid}
 use Rattle.grid.specs.Sheet.{size, neighbour}
-use Rattle.grid.specs.Routes.{follow, hasCode, receiver, positionAt, route, firstEndless}
+use Rattle.grid.specs.Routes.{hasCode, receiver, positionAt, route}
 use Rattle.grid.specs.Checks.{accepted}
 use Rattle.grid.specs.Endings.{areNeighbours, isStray, firstStray, askList, endingCheck, RoutesJoin, AllRoutesJoin}
 use Rattle.grid_laws.proofs.Tests.{cond-true, or-false, and-false-right, not-of-true}
 use Rattle.grid_laws.proofs.Below.{any-of, first-none}
-use Rattle.route_laws.specs.Ends.{EndsIn, Ends, firstUnending}
-use Rattle.route_laws.proofs.Routes.{enough, short, all-end}
-use Rattle.route_laws.proofs.Receivers.{code-below}
+use Rattle.route_laws.proofs.Whole.{on-sheet, every-ends, whole}
 use Rattle.checks.proofs.Asked.{size-passes}
 use Rattle.ending_laws.proofs.Longest.{is-longest, turned}
 use Rattle.ending_laws.proofs.Meeting.{join, cell-live, cell-next}
 use Rattle.ending_laws.proofs.Accepted.{Sound, sound-of}
 
 module _ (g : Grid) (codes : List ℕ) (ok : Sound g codes) where
-  on-sheet : (c : ℕ) → hasCode codes c ≡ true → c < size g
-  on-sheet c t = let b = code-below codes c t in let l = ok .long in omega arith
-
-  ends : (c : ℕ) → Ends (hasCode codes) (receiver g codes) c
-  unfolding firstEndless firstUnending
-  ends = all-end (hasCode codes) (receiver g codes) (size g) on-sheet (ok .all-end)
-
-  whole : (c k : ℕ) → EndsIn (hasCode codes) (receiver g codes) k c → route g codes c ≡ follow (hasCode codes) (receiver g codes) k c
-  whole c k e =
-      enough (hasCode codes) (receiver g codes) k (size g) c e (short (hasCode codes) (receiver g codes) (size g) on-sheet k c e)
-
   -- ---- no cell of a route is stray
 
   live-at : (a i : ℕ) → i < length (route g codes a) → hasCode codes (getD (route g codes a) i 0) ≡ true
   live-at a i h = cell-live (hasCode codes) (receiver g codes) (size g) a i h
 
   within : (a i : ℕ) → i < length (route g codes a) → leb (size g) (getD (route g codes a) i 0) ≡ false
-  within a i h = lt-leb (size g) (getD (route g codes a) i 0) (on-sheet (getD (route g codes a) i 0) (live-at a i h))
+  within a i h = lt-leb (size g) (getD (route g codes a) i 0) (on-sheet g codes (ok .long) (getD (route g codes a) i 0) (live-at a i h))
 
   -- the code of a cell points at the next
   next-touches : (a i : ℕ) → suc i < length (route g codes a) →
@@ -76,10 +63,10 @@ module _ (g : Grid) (codes : List ℕ) (ok : Sound g codes) where
 
   routes-join : (a b : ℕ) → RoutesJoin g codes a b
   routes-join a b =
-      let (k, e) = ends a in
-      let (j, f) = ends b in
-      let p = whole a k e in
-      let q = whole b j f in
+      let (k, e) = every-ends g codes (ok .long) (ok .all-end) a in
+      let (j, f) = every-ends g codes (ok .long) (ok .all-end) b in
+      let p = whole g codes (ok .long) a k e in
+      let q = whole g codes (ok .long) b j f in
       record {
         accepts = lists-pass a b;
         on-first = rw (p, q) (join (hasCode codes) (receiver g codes) k j a b e f _ (is-longest _ _));

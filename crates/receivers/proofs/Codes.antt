@@ -18,7 +18,7 @@ use Rattle.grid.specs.Routes.{positionAt, hasCode, receiver, firstBadCode}
 use Rattle.grid_laws.proofs.Tests.{test, true-false, cond-true, cond-false, or-cases, or-none-left, or-none-right}
 use Rattle.grid_laws.proofs.Tests.{and-true, and-false-left, and-false-right, not-of-true, not-of-false, not-true-false}
 use Rattle.grid_laws.proofs.Below.{at-table, first-is, first-none, first-found, first-all}
-use Rattle.grid_laws.proofs.Neighbours.{at-eight, position-of-code}
+use Rattle.grid_laws.proofs.Neighbours.{at-eight, position-of-code, no-code}
 use Rattle.route_laws.specs.Receivers.{receiverMark, AllCodes}
 use Rattle.route_laws.proofs.Receivers.{code-below}
 use Rattle.cells.specs.Steps.{downOf, rightOf, Inner, Offsets}
@@ -137,17 +137,13 @@ reach-at cols reach k R h = ap (λ (x : ℕ). getD reach x 0) (code-of-position 
 
 -- ---- the mark of a cell, by the tests of a program
 module _ (g : Grid) (codes : List ℕ) (long : length codes ≡ size g) (all : AllCodes codes) (c : ℕ) where
-  no-code : (d : ℕ) → getD codes d 0 ≡ 0 → hasCode codes d ≡ false
-  unfolding hasCode positionOf firstBelow
-  no-code d e = ap (λ (k : ℕ). ltb (positionOf k) 8) e
-
   pub position-small : (getD codes c 0 ≡ 0 → ⊥) → positionOf (getD codes c 0) < 8
   unfolding hasCode
   position-small f = ⊎-elim (λ e. absurd (f e)) (λ t. ltb-true (positionOf (getD codes c 0)) 8 t) (all c)
 
   pub mark-zero : getD codes c 0 ≡ 0 → size g + 1 ≡ receiverMark g codes c
   unfolding receiverMark
-  mark-zero e = sym (cond-false _ _ (no-code c e))
+  mark-zero e = sym (cond-false _ _ (no-code codes c e))
 
   has : (d : ℕ) → (getD codes d 0 ≡ 0 → ⊥) → hasCode codes d ≡ true
   has d f = ⊎-elim (λ e. absurd (f e)) (λ t. t) (all d)
@@ -168,7 +164,8 @@ module _ (g : Grid) (codes : List ℕ) (long : length codes ≡ size g) (all : A
     pub mark-stop : getD codes d 0 ≡ 0 → size g ≡ receiverMark g codes c
     unfolding receiverMark
     mark-stop z =
-        sym (cond-true _ _ (has c f) ∙ cond-false _ _ (no-code (receiver g codes c) (subst (λ (x : ℕ). getD codes x 0 ≡ 0) is-receiver z)))
+        sym (cond-true _ _ (has c f)
+        ∙ cond-false _ _ (no-code codes (receiver g codes c) (subst (λ (x : ℕ). getD codes x 0 ≡ 0) is-receiver z)))
 
     pub mark-on : (getD codes d 0 ≡ 0 → ⊥) → d ≡ receiverMark g codes c
     unfolding receiverMark

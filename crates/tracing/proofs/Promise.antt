@@ -2,7 +2,7 @@
 use mathlib.Core.Path.{_≡_, refl, sym, _∙_, ap, subst}
 use mathlib.Core.Bool.{Bool, true, false, not}
 use mathlib.Core.List.{List, [], _∷_}
-use Prim.Native.Nat.{ℕ, _^_, _≤_, _<_}
+use Prim.Native.Nat.{ℕ, _≤_, _<_}
 use native.Mathlib.Omega.{arith}
 use lib.Dec.{eqb, ltb}
 use lib.ListN.{length}
@@ -16,10 +16,9 @@ use Rattle.grid.specs.Crews.{hasTrace, askTrace, handInCheck, handedIn, firstLo
 use Rattle.grid.specs.Promises.{resultOf, WorkBuffer, HandInPromise, RunPromise}
 use Rattle.grid_laws.proofs.Tests.{cond-true, cond-false}
 use Rattle.grid_laws.proofs.Below.{first-≤}
-use Rattle.route_laws.specs.Receivers.{AllCodes}
 use Rattle.checks.proofs.Gate.{Gate, both, kept, passed, answered-no, answered-yes, is-accepted}
 use Rattle.checks.proofs.Asked.{Sized, check-gate}
-use Rattle.checks.proofs.Questions.{codes-gate, Late, number-late, yes-is-late}
+use Rattle.checks.proofs.Questions.{codes-gate, Late, number-late, yes-late, ask-late}
 use Rattle.receivers.proofs.Codes.{all-codes}
 use Rattle.code_check.specs.Asked.{CodesAsked}
 use Rattle.crew_laws.specs.Standing.{OnSheet, Standing}
@@ -27,17 +26,12 @@ use Rattle.crew_laws.proofs.Changes.{trace-gate}
 use Rattle.crew_laws.proofs.Keeps.{isLost, standing-of}
 
 -- ---- 21 to 23 are asked when the work buffer may be written
-one-late : (holds : Bool) (number place : ℕ) (later : Answer) → Late (refusal number place) → Late later →
-    Late (ask holds (refusal number place) later)
-one-late true number place later n L = L
-one-late false number place later n L = n
-
 trace-late : (codes : List ℕ) (crew cell : ℕ) (s : List ℕ) → Late (askTrace codes crew cell s accepted)
 unfolding askTrace
 trace-late codes crew cell s =
-    one-late (ltb crew 32) 21 0 _ (number-late 21 tt)
-    (one-late (not (hasTrace s crew)) 22 0 _ (number-late 22 tt)
-    (one-late (hasCode codes cell) 23 0 _ (number-late 23 tt) (yes-is-late refl)))
+    ask-late (ltb crew 32) 21 0 _ tt
+    (ask-late (not (hasTrace s crew)) 22 0 _ tt
+    (ask-late (hasCode codes cell) 23 0 _ tt yes-late))
 
 module _ (g : Grid) (codes w₀ w₁ : List ℕ) (r : Answer) (asked : CodesAsked g codes w₀ w₁ r) where
   -- what the crews' questions are asked after

@@ -4,13 +4,10 @@ use mathlib.Core.Bool.{Bool, true, false, not, cond, _&&_, _||_}
 use mathlib.Core.List.{List}
 use Prim.Native.Nat.{ℕ, _+_, _≤_, _<_}
 use native.Mathlib.Omega.{arith}
-use native.Mathlib.Decide.{decLt}
 use lib.Dec.{eqb, ltb}
 use lib.ListN.{set}
 use borrow.Author.Tests.{eq-eqb, ne-eqb, lt-ltb, le-ltb}
 use Rattle.grid.specs.declared.Answer.{Answer}
-use Rattle.grid.specs.declared.Collected.{Collected}
-use Rattle.grid.specs.Below.{firstBelow}
 use Rattle.grid.specs.Routes.{hasCode}
 use Rattle.grid.specs.Checks.{refusal}
 use Rattle.grid.specs.Crews.{noTrace, waiting, finished, statusOf, standsOn, isOnWay, isFinished, hasTrace, askTrace, handedIn, firstLost}

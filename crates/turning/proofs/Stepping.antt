@@ -5,24 +5,19 @@ use mathlib.Core.Logic.{_⊎_, inl, inr, ⊎-elim}
 use mathlib.Core.List.{List}
 use native.Mathlib.Numerals.{add-one}
 use Prim.Native.Nat.{ℕ, _+_, _%_, _≤_, _<_}
-use native.Mathlib.Omega.{arith}
 use lib.Dec.{eqb}
 use lib.ListN.{length, getD, set, List·getD-eq-default}
 use borrow.Author.Tests.{ltb-true, eq-eqb, ne-eqb, eqb-true, eqb-false}
 use Rattle.grid.specs.declared.Grid.{Grid}
-use Rattle.grid.specs.Below.{firstBelow}
-use Rattle.grid.specs.Sheet.{size, positionOf, neighbour}
+use Rattle.grid.specs.Sheet.{neighbour}
 use Rattle.grid.specs.Routes.{positionAt, hasCode, receiver}
 use Rattle.grid.specs.Crews.{waiting, finished, statusOf, standsOn, nextCrew, isOnWay, counted, stepped, turnOf, turn, turns}
 use Rattle.grid_laws.proofs.Tests.{test, cond-true, cond-false, not-of-true, not-of-false}
+use Rattle.grid_laws.proofs.Neighbours.{no-code}
 use Rattle.route_laws.specs.Receivers.{AllCodes}
-use Rattle.route_laws.proofs.Receivers.{code-below}
 use Rattle.crew_laws.specs.Standing.{OnSheet}
 
 module _ (g : Grid) (codes : List ℕ) (on : OnSheet g codes) where
-  pub on-sheet : (c : ℕ) → hasCode codes c ≡ true → c < size g
-  on-sheet c t = let b = code-below codes c t in let l = on .long in omega arith
-
   pub position-small : (c : ℕ) → hasCode codes c ≡ true → positionAt codes c < 8
   unfolding hasCode
   position-small c t = ltb-true (positionAt codes c) 8 t
@@ -43,12 +38,7 @@ module _ (g : Grid) (codes : List ℕ) (on : OnSheet g codes) where
 -- ---- a cell's code
 
 pub off-sheet : (codes : List ℕ) (c : ℕ) → length codes ≤ c → false ≡ hasCode codes c
-unfolding hasCode positionOf firstBelow
-off-sheet codes c h = rw (List·getD-eq-default codes 0 h)
-
-pub no-code : (codes : List ℕ) (c : ℕ) → getD codes c 0 ≡ 0 → hasCode codes c ≡ false
-unfolding hasCode positionOf firstBelow
-no-code codes c e = rw e
+off-sheet codes c h = sym (no-code codes c (List·getD-eq-default codes 0 h))
 
 pub code-above : (codes : List ℕ) → AllCodes codes → (c : ℕ) → not (eqb (getD codes c 0) 0) ≡ hasCode codes c
 code-above codes all c = go (test (eqb (getD codes c 0) 0))

@@ -5,10 +5,9 @@
 use cells::Direction;
 use grid::Grid;
 ghost use mathlib.Core.Path.{_≡_};
-ghost use mathlib.Core.Bool.{true, false};
-ghost use Prim.Native.Nat.{min, _+_, _%_, _<_, _≤_, _^_};
-ghost use lib.ListN.{length, getD, set};
-ghost use Rattle.grid.specs.Sheet.{size};
+ghost use mathlib.Core.Bool.{true};
+ghost use Prim.Native.Nat.{min, _+_, _<_};
+ghost use lib.ListN.{set};
 ghost use Rattle.grid.specs.Routes.{hasCode, receiver};
 ghost use Rattle.grid.specs.Crews.{finished, standsOn, largest, counted, stepped, turnOf, turn, turns};
 ghost use Rattle.route_laws.specs.Receivers.{AllCodes};

@@ -1,7 +1,6 @@
 -- i turns are taken, and every trace on its way stands on a cell with a code.
 use mathlib.Core.Path.{_≡_, _∙_, ap, sym, subst}
-use mathlib.Core.List.{List}
-use Prim.Native.Nat.{ℕ, _+_, _-_, _≤_}
+use Prim.Native.Nat.{ℕ, _-_, _≤_}
 use native.Mathlib.Omega.{arith}
 use lib.ListN.{length}
 use Rattle.grid.specs.Crews.{turns}
