@@ -167,11 +167,11 @@ int main(int argc, char **argv)
         double t[7] = { 0 }, u[6] = { 0 };
         for (int k = 0; k < times; k++) {
             double a = now();
-            outlets(s, z, code);
+            uint32_t shores = outlets(s, z, code, byte, w0);
             double b = now();
-            fill(s, z, code, f, w0, w1);
+            fill(s, z, code, shores, f, w0, w1);
             double c = now();
-            directions(s, f, code, byte, w1);
+            directions(s, f, code, shores, byte, w1);
             double d = now();
             ways(s, code, way);
             double e = now();

@@ -13,16 +13,21 @@
  *         16   8   4                 8   4   2                        5 6 7
  *
  * It is NOT the ESRI coding, where east is 1: from ours to ESRI's, a code c other than 1 is c / 2, and 1 is 128.
- * COUNTS do not include the cell itself. VOIDS (-32768) lie outside: a data cell beside a void is an OUTLET, as one on an open
- * side of the border is. Nothing is filled at an outlet.
+ * COUNTS do not include the cell itself. Nothing is filled at an OUTLET: a data cell on an open side of the border, or beside a void
+ * that is outside.
+ *
+ * VOIDS AND GAPS. A void (-32768) is outside if neighbouring voids, joined at sides and corners, lead from it, itself included, to a
+ * void on an open side of the border. Any other void is a GAP, as a lake is that the radar left out: it takes no water, makes no
+ * outlet, and no code points at it. Every void, outside or a gap, stays -32768 and has code 0, count 0 and label 0.
  *
  * CLOSED SIDES. A sheet cut from larger country goes on next door, and water at the cut does not leave. The calls that work out
  * outlets (fill, ponds, directions, drain, culvert) take a number from 0 to 15 for the sides that are closed: west 1, east 2,
  * north 4, south 8, added up; with 0 every side is open. A border cell is an outlet only through an open side by a straight
- * step, or beside a void; one open side is enough for a cell in the sheet's corner. Its code is the first of 32, 2, 128, 8, 1, 4,
- * 16, 64 whose step is one of these. A void on a closed side is outside like any other. A sheet with a data cell that has no chain
- * to an outlet, as one with four closed sides and no void, is refused with 18. All other calls know no sides: those that see codes
- * only end a route at any step off the sheet.
+ * step, or beside a void that is outside. An outlet's code is the first of 32, 2, 128, 8, 1, 4, 16, 64 whose step is one of these. One
+ * open side is enough for a cell in the sheet's corner, data or void; voids that come to the border at closed sides alone are a gap. A
+ * sheet with a data cell that has no chain to an outlet, as one on an island in a gap, or any where all four sides are closed, is
+ * refused with 18; a sheet with no data cell is accepted under any sides. All other calls know no sides: those that see codes only
+ * end a route at any step off the sheet.
  *
  * THE SHAPE OF CELLS. The calls that work out codes (directions, drain, culvert) take a cell's width, from west to east, and its
  * height, from north to south, whole numbers from 1 to 1,000 each. A drop is divided by the width for east and west, by the height
@@ -51,7 +56,7 @@
 #include <stdint.h>
 
 #define TERVUOLA_VERSION_MAJOR 0
-#define TERVUOLA_VERSION_MINOR 9
+#define TERVUOLA_VERSION_MINOR 10
 #define TERVUOLA_VERSION_PATCH 0
 
 /* The void mark, and the eight direction codes. */

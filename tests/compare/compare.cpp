@@ -1,17 +1,20 @@
-// Every call of libtervuola.a against the second program as it is after request 8, on its sheets, on sheets of ponds, on sheets cut from
-// larger ones, under all closed sides, with cells of many shapes, on drops that tie by them, on random codes, on cells and levels that are
-// and are not there, on walks, routes and lists of any numbers, on lists of hand-ins, runs and collections from any state of the crews, on
-// damaged texts, and on wrong lengths. What is written is read again, and what is read is written again.
-//   compare ROUNDS [SEED]      sheets up to 5 by 5, each size under each number of closed sides; then ROUNDS of sheets up to 40 by 40
-//   compare big KIND SIDE      one large sheet, by the second program's fast layer
+// Every call of libtervuola.a against the second program as it is after request 9, on its sheets, on sheets of ponds, on sheets cut from
+// larger ones, on sheets with gaps, under all closed sides, with cells of many shapes, on drops that tie by them, on random codes, on cells
+// and levels that are and are not there, on walks, routes and lists of any numbers, on lists of hand-ins, runs and collections from any
+// state of the crews, on damaged texts, and on wrong lengths. What is written is read again, and what is read is written again.
+//   compare ROUNDS [SEED]      sheets up to 5 by 5, each size under each number of closed sides, and each way to lay voids on 3 by 3 and
+//                              within the border of 5 by 5; then ROUNDS of sheets up to 40 by 40
+//   compare big KIND SIDE      one large sheet, by the second program's fast layer; the kind "lakes" is one of gaps
 // A result buffer is lent with guard elements on both sides, and holds a pattern before the call; a no must leave it, and the work buffer
 // up to question 9, which 17 and 20 come before. The counts call must leave the first 2 * rows * cols places of the work buffer
 // beside every answer. Of the crews' state each of the 66 words is compared after each call, where the second program has no word for
 // it too: a call changes just the words that it is said to change.
 #include "../../include/tervuola.h"
 #include "../second/gen.hpp"
+#include <array>
 #include <cstring>
 using namespace oracle;
+static const int REQUEST = 9;
 
 static u64 checks = 0;
 static const char *part = "round";
@@ -117,17 +120,101 @@ template <class T> static V<T> resized(const V<T> &v, size_t n) {
   r.resize(n);
   return r;
 }
+static bool on_border(const Desc &d, u64 c) { return c < d.cols || c >= d.n() - d.cols || c % d.cols == 0 || c % d.cols == d.cols - 1; }
+// some neighbour of c is `such`
+template <class Such> static bool beside(const Desc &d, u64 c, Such such) {
+  for (int p = 0; p < 8; p++) {
+    i64 j = at_step(d.rows, d.cols, c, p);
+    if (j >= 0 && such((u64)j))
+      return true;
+  }
+  return false;
+}
 
 // texts that differ from what is written again, by the case of letters; texts written into just their length, and refused a byte less
 static u64 raised_texts = 0, exact_rooms = 0, short_rooms = 0;
 // the answers that a call has given
 static std::map<std::string, std::map<u32, u64>> answers;
+
+// ---- voids that are outside, and gaps
+
+// the voids that voids lead from to one on an open side that is not `but`: over sides and corners, or over sides alone
+static V<u8> led_outside(const Desc &d, const V<i16> &e, bool corners, u64 but) {
+  V<u8> is(d.n(), 0);
+  V<u32> queue;
+  auto take = [&](u64 c) {
+    if (e[c] != VOIDMARK || is[c])
+      return;
+    is[c] = 1;
+    queue.push_back((u32)c);
+  };
+  for (u64 c = 0; c < d.n(); c++)
+    if (c != but && on_open_side(d, c))
+      take(c);
+  for (u64 k = 0; k < queue.size(); k++)
+    for (int p = corners ? 0 : 1; p < 8; p += corners ? 1 : 2) {
+      i64 j = at_step(d.rows, d.cols, queue[k], p);
+      if (j >= 0)
+        take((u64)j);
+    }
+  return is;
+}
+// a cell that holds data and lies beside a gap, and beside no void that is outside
+static bool on_shore(const Desc &d, const V<i16> &e, u64 c) {
+  V<u8> out = fast::outside(d, e);
+  auto gap = [&](u64 j) { return e[j] == VOIDMARK && !out[j]; };
+  return e[c] != VOIDMARK && beside(d, c, gap) && !beside(d, c, [&](u64 j) { return out[j] != 0; });
+}
+// Sheets that a call has answered: accepted ones that have, beside a data cell, a gap within the border, a gap on closed sides alone, a void that
+// is outside over a corner alone, one that is so by one side of the sheet's corner alone, the other being closed, and gaps and voids that are
+// outside at once; those refused with 18 that would be accepted if every void were outside; and accepted ones of gaps and nothing else.
+enum Voids { LAKE, CLOSED_SIDE, OVER_CORNER, SHEET_CORNER, BOTH, ISLAND, NO_DATA, VOIDS };
+static const char *const VOID_NAMES[VOIDS] = {"a gap within the border", "on closed sides alone", "outside over a corner alone", "by one side of the sheet's corner",
+                                              "a gap and a void outside", "an island in a gap", "no data cell"};
+static std::map<std::string, std::array<u64, VOIDS>> voids_met;
+static void voids_answer(const char *call, u32 number, const Desc &d, const V<i16> &e) {
+  if ((number && number != 18) || std::find(e.begin(), e.end(), VOIDMARK) == e.end())
+    return;
+  auto &met = voids_met[call];
+  const u64 n = d.n();
+  if (number == 18) {
+    LEVEL = REQUEST - 1;
+    met[ISLAND] += first_stranded(d, e) == n;
+    LEVEL = REQUEST;
+    return;
+  }
+  const V<u8> out = led_outside(d, e, true, n), sides = led_outside(d, e, false, n);
+  if (out != fast::outside(d, e))
+    fail(call, "which voids are outside", 0);
+  bool has[VOIDS] = {false}, gap = false, is_outside = false, data = false;
+  for (u64 c = 0; c < n; c++) {
+    data = data || e[c] != VOIDMARK;
+    if (e[c] != VOIDMARK || !beside(d, c, [&](u64 j) { return e[j] != VOIDMARK; }))
+      continue;
+    (out[c] ? is_outside : gap) = true;
+    if (!out[c])
+      has[on_border(d, c) ? CLOSED_SIDE : LAKE] = true;
+    if (out[c] && !sides[c])
+      has[OVER_CORNER] = true;
+  }
+  has[BOTH] = gap && is_outside;
+  has[NO_DATA] = !data && std::find(out.begin(), out.end(), 0) != out.end();
+  for (u64 k = 0; k < 4 && data && d.rows > 1 && d.cols > 1; k++) {
+    u64 c = (k / 2 ? n - d.cols : 0) + (k % 2 ? d.cols - 1 : 0);
+    bool along = d.closed & (k / 2 ? SOUTH : NORTH), across = d.closed & (k % 2 ? EAST : WEST);
+    if (out[c] && along != across && !led_outside(d, e, true, c)[c])
+      has[SHEET_CORNER] = true;
+  }
+  for (int k = 0; k < VOIDS; k++)
+    met[k] += has[k];
+}
 // An answer of a call that works out outlets: the closed sides that it has accepted, and how often it has answered no where another
 // question, asked later, has the answer no as well.
 static std::map<std::string, std::set<u64>> accepted_sides;
 static std::map<std::string, std::map<std::pair<u32, u32>, u64>> before;
 static void outlets_answer(const char *call, u32 number, const Desc &d, const V<i16> &e, bool results, const Lent<u32> &work, bool codes) {
   auto &met = before[call];
+  voids_answer(call, number, d, e);
   if (number == 0)
     accepted_sides[call].insert(d.closed);
   if ((number == 5 || number == 6) && d.closed > 15)
@@ -220,9 +307,8 @@ static void count_ties(const Desc &d, const V<i16> &e) {
         if (pass == 1 && order == 0)
           (p % 2 == 0 ? corners : p % 4 == 1 ? across : along) = 1;
       }
-    bool border = c < d.cols || c >= d.n() - d.cols || c % d.cols == 0 || c % d.cols == d.cols - 1;
     side_corner_ties += corners && (across || along);
-    border_ties += border && corners && (across || along);
+    border_ties += on_border(d, c) && corners && (across || along);
     side_side_ties += across && along && !corners;
     three_ties += corners && across && along;
   }
@@ -313,6 +399,7 @@ static void pour_points_round(const Desc &d, const V<i16> &e0, gen::Rng &g, Leng
 struct Filled {
   u32 number;
   V<i16> filled;
+  V<u8> codes;
 };
 template <class Call, class Said>
 static Filled four_round(const char *name, Call call, Said said, const Desc &d, const V<i16> &e, size_t cells, Lengths len, u64 round) {
@@ -337,7 +424,7 @@ static Filled four_round(const char *name, Call call, Said said, const Desc &d, 
     fail(name, "the sheet handed in", round);
   answers[name][a.number]++;
   outlets_answer(name, a.number, d, e, f.n == d.n() && k.n == d.n() && n.n == d.n() && l.n == d.n(), work, true);
-  return {a.number, f.list()};
+  return {a.number, f.list(), k.list()};
 }
 // accepted sheets with a cell on the border that is no outlet and flows inward, and of these the ones where such a cell has water on it,
 // and where it has no lower neighbour on the filled sheet
@@ -346,21 +433,39 @@ static void closed_border(const Desc &d, const V<i16> &e, const V<i16> &filled) 
   V<u8> out = fast::outlets(d, e);
   bool some = false, wet = false, flat = false;
   for (u64 c = 0; c < d.n(); c++) {
-    bool border = c < d.cols || c >= d.n() - d.cols || c % d.cols == 0 || c % d.cols == d.cols - 1;
-    if (!border || out[c] || e[c] == VOIDMARK)
+    if (!on_border(d, c) || out[c] || e[c] == VOIDMARK)
       continue;
-    bool lower = false;
-    for (int p = 0; p < 8; p++) {
-      i64 j = at_step(d.rows, d.cols, c, p);
-      lower = lower || (j >= 0 && filled[(u64)j] < filled[c]);
-    }
     some = true;
     wet = wet || filled[c] > e[c];
-    flat = flat || !lower;
+    flat = flat || !beside(d, c, [&](u64 j) { return e[j] != VOIDMARK && filled[j] < filled[c]; });
   }
   inward += some;
   inward_wet += wet;
   inward_flat += flat;
+}
+// accepted sheets with gaps: those where a cell on the shore of one has water on it, and where one has no lower neighbour, and those with other codes than
+// if every void were outside
+static u64 wet_shores = 0, flat_shores = 0, other_ways = 0;
+static void shores(const Desc &d, const V<i16> &e, const Filled &r) {
+  const V<u8> out = fast::outside(d, e), outlets = fast::outlets(d, e);
+  auto gap = [&](u64 c) { return e[c] == VOIDMARK && !out[c]; };
+  bool gaps = false, wet = false, flat = false;
+  for (u64 c = 0; c < d.n(); c++) {
+    gaps = gaps || gap(c);
+    if (e[c] == VOIDMARK || outlets[c] || !beside(d, c, gap))
+      continue;
+    wet = wet || r.filled[c] > e[c];
+    flat = flat || !beside(d, c, [&](u64 j) { return e[j] != VOIDMARK && r.filled[j] < r.filled[c]; });
+  }
+  if (!gaps)
+    return;
+  wet_shores += wet;
+  flat_shores += flat;
+  LEVEL = REQUEST - 1;
+  V<u8> codes;
+  directions(d, oracle::fill(d, e), codes);
+  LEVEL = REQUEST;
+  other_ways += codes != r.codes;
 }
 static void drain_round(const Desc &d, const V<i16> &e0, Lengths len, u64 round) {
   V<i16> e = resized(e0, len.of(e0.size()));
@@ -371,8 +476,10 @@ static void drain_round(const Desc &d, const V<i16> &e0, Lengths len, u64 round)
                               n.at(), n.n, l.at(), l.n, work.at(), work.n);
       },
       [&](Four &want, u64 work) { return call_four(d, e, want, work); }, d, e, e0.size(), len, round);
-  if (r.number == 0)
+  if (r.number == 0) {
     closed_border(d, e, r.filled);
+    shores(d, e, r);
+  }
 }
 // A cell of a sheet: mostly one that is not `none`, now and then any cell or one off the sheet.
 template <class T> static u32 some_cell(gen::Rng &g, const V<T> &e, T none) {
@@ -396,8 +503,8 @@ static i16 some_level(gen::Rng &g, i16 z) {
     return VOIDMARK;
   return g.chance(60) ? (i16)std::min<i64>(32767, (i64)z + 1 + (i64)g.below(3)) : (i16)g.in(-32768, 32767);
 }
-// cells opened to a lower level, those of them on the border, and those whose culvert lowers the filled sheet elsewhere
-static u64 opened_lower = 0, opened_border = 0, opened_banks = 0;
+// cells opened to a lower level, those of them on the border, on the shore of a gap, and those whose culvert lowers the filled sheet elsewhere
+static u64 opened_lower = 0, opened_border = 0, opened_shores = 0, opened_banks = 0;
 static void culvert_round(const Desc &d, const V<i16> &e0, gen::Rng &g, Lengths len, u64 round) {
   V<i16> e = resized(e0, len.of(e0.size()));
   u32 cell = some_cell(g, e0, VOIDMARK);
@@ -411,7 +518,8 @@ static void culvert_round(const Desc &d, const V<i16> &e0, gen::Rng &g, Lengths 
       [&](Four &want, u64 work) { return call_culvert(d, e, V<u64>{cell}, V<i16>{level}, want, work); }, d, e, e0.size(), len, round);
   if (r.number == 0 && level < e[cell]) {
     opened_lower++;
-    opened_border += cell < d.cols || cell >= d.n() - d.cols || cell % d.cols == 0 || cell % d.cols == d.cols - 1;
+    opened_border += on_border(d, cell);
+    opened_shores += on_shore(d, e, cell);
     V<i16> plain = oracle::fill(d, e);
     plain[cell] = r.filled[cell];
     opened_banks += plain != r.filled;
@@ -463,6 +571,104 @@ static V<i16> cut_sheet(gen::Rng &g, u64 form, u64 rows, u64 cols) {
   for (u64 r = 0; r < rows; r++)
     for (u64 q = 0; q < cols; q++)
       e[r * cols + q] = all[(up + r) * wide + left + q];
+  return e;
+}
+// voids on a walk from a cell on, which goes through cells within the border
+static void walk_of_voids(gen::Rng &g, const Desc &d, u64 from, u64 steps, V<i16> &e) {
+  u64 c = from;
+  e[c] = VOIDMARK;
+  for (u64 k = 0; k < steps; k++) {
+    i64 j = at_step(d.rows, d.cols, c, (int)g.below(8));
+    if (j < 0 || on_border(d, (u64)j))
+      continue;
+    c = (u64)j;
+    e[c] = VOIDMARK;
+  }
+}
+// Sheets of at least 3 by 3 with voids: lakes within the border; a ring round an island, now and then with a way through; a walk from a side, mostly from
+// a closed one; voids from corner to corner, from the border on, now and then with a cell between; a walk from a corner of the sheet whose one side is
+// closed; and voids anywhere, or everywhere. Changes the closed sides where the form asks for it.
+enum GapForm { LAKES, ISLANDS, SHORES, DIAGONAL, SHEET_CORNERS, ANYWHERE, GAP_FORMS };
+static V<i16> gap_sheet(gen::Rng &g, u64 form, Desc &d) {
+  const u64 rows = d.rows, cols = d.cols;
+  const i64 low = g.chance(30) ? g.in(-32767, 32758) : g.in(-3, 3), high = low + g.in(0, 9);
+  V<i16> e = cut_sheet(g, g.below(FORMS), rows, cols);
+  if (g.chance(60))
+    for (auto &x : e)
+      x = (i16)g.in(low, high);
+  auto inner = [&] { return (1 + g.below(rows - 2)) * cols + 1 + g.below(cols - 2); };
+  // a cell on a side: west, east, north, south
+  auto side_cell = [&](u64 side) {
+    u64 r = g.below(rows), q = g.below(cols);
+    return side == 0 ? r * cols : side == 1 ? r * cols + cols - 1 : side == 2 ? q : (rows - 1) * cols + q;
+  };
+  switch (form) {
+  case LAKES:
+    for (u64 k = 1 + g.below(3); k > 0; k--)
+      walk_of_voids(g, d, inner(), g.below(rows + cols), e);
+    break;
+  case ISLANDS: {
+    u64 h = std::min(rows, 3 + g.below(3)), w = std::min(cols, 3 + g.below(3)), top = g.below(rows - h + 1), left = g.below(cols - w + 1);
+    bool within = g.chance(70), way = g.chance(25);
+    if (within && rows > h + 1)
+      top = 1 + g.below(rows - h - 1);
+    if (within && cols > w + 1)
+      left = 1 + g.below(cols - w - 1);
+    for (u64 r = 0; r < h; r++)
+      for (u64 q = 0; q < w; q++)
+        if ((r == 0 || q == 0 || r + 1 == h || q + 1 == w) && !(way && g.chance(20)))
+          e[(top + r) * cols + left + q] = VOIDMARK;
+    break;
+  }
+  case SHORES: {
+    if (d.closed == 0 || d.closed == 15)
+      d.closed = 1 + g.below(14);
+    u64 side = g.below(4);
+    while (g.chance(90) && !(d.closed >> side & 1))
+      side = g.below(4);
+    walk_of_voids(g, d, side_cell(side), g.below(rows + cols), e);
+    break;
+  }
+  case DIAGONAL: {
+    i64 c = (i64)side_cell(g.below(4));
+    int p = 2 * (int)g.below(4);
+    for (u64 k = 2 + g.below(5); k > 0 && c >= 0; k--) {
+      if (!g.chance(8))
+        e[(u64)c] = VOIDMARK;
+      c = at_step(rows, cols, (u64)c, p);
+    }
+    break;
+  }
+  case SHEET_CORNERS: {
+    u64 k = g.below(4), across = k % 2 ? EAST : WEST, along = k / 2 ? SOUTH : NORTH;
+    if (g.chance(80))
+      d.closed = (d.closed & ~(across | along)) | (g.chance(50) ? across : along);
+    walk_of_voids(g, d, (k / 2 ? (rows - 1) * cols : 0) + (k % 2 ? cols - 1 : 0), g.below(rows + cols), e);
+    break;
+  }
+  case ANYWHERE: {
+    int percent = g.chance(80) ? (int)g.in(5, 70) : 100;
+    if (percent == 100 && g.chance(50))
+      d.closed = 15;
+    for (auto &x : e)
+      if (g.chance(percent))
+        x = VOIDMARK;
+    break;
+  }
+  }
+  return e;
+}
+// round lakes on a large sheet, some of them on its border
+static V<i16> lakes(u64 side) {
+  gen::Rng g(side);
+  V<i16> e = gen::sheet("bog", 9, side, side).e;
+  for (u64 k = 0; k < 60; k++) {
+    const i64 n = (i64)side, row = g.in(0, n - 1), col = g.in(0, n - 1), radius = g.in(1, 1 + n / 25);
+    for (i64 r = std::max<i64>(0, row - radius); r < std::min(n, row + radius); r++)
+      for (i64 q = std::max<i64>(0, col - radius); q < std::min(n, col + radius); q++)
+        if ((r - row) * (r - row) + (q - col) * (q - col) < radius * radius)
+          e[(u64)(r * n + q)] = VOIDMARK;
+  }
   return e;
 }
 // the most ponds of one sheet
@@ -1205,13 +1411,22 @@ static bool every_order(const char *call, const V<std::pair<u32, u32>> &order) {
   return all;
 }
 // the same of a call that works out outlets: 17 and 18 are met in their order among the others (18 always comes before 10: without an
-// outlet the lowest cell has no level), and each number of closed sides has been accepted
-static bool every_outlets_answer(const char *call, const V<u32> &numbers, V<std::pair<u32, u32>> order) {
+// outlet the lowest cell has no level), each number of closed sides has been accepted, and voids of each kind have been met at least so often; a culvert
+// needs a data cell, and with no side open that has no outlet
+static bool every_outlets_answer(const char *call, const V<u32> &numbers, V<std::pair<u32, u32>> order, bool culvert, u64 least) {
   bool all = every_answer(call, numbers);
   order.insert(order.begin(), {{5, 17}, {6, 17}, {17, 7}, {17, 8}, {17, 9}, {9, 18}});
   all = every_order(call, order) && all;
   printf("compare: %s, closed sides accepted: %llu of 16\n", call, (unsigned long long)accepted_sides[call].size());
-  return all && accepted_sides[call].size() == 16;
+  all = all && accepted_sides[call].size() == (culvert ? 15 : 16) && accepted_sides[call].count(15) == !culvert;
+  printf("compare: %s, sheets with voids:", call);
+  for (int k = 0; k < VOIDS; k++) {
+    u64 met = voids_met[call][k];
+    printf("  %s: %llu", VOID_NAMES[k], (unsigned long long)met);
+    all = all && (k == NO_DATA ? (met > 0) == !culvert : met >= least);
+  }
+  printf("\n");
+  return all;
 }
 
 // the five calls that work out outlets, on one sheet
@@ -1247,6 +1462,28 @@ static void small_sheets(u64 seed) {
     d.height = len.cell(SHAPES[i % SHAPE_COUNT][1]);
     outlets_rounds(d, e, g, len, i);
     directions_round(d, filled, len, i);
+  }
+  part = "round";
+}
+
+// each way to lay voids on 3 by 3, and within the border of 5 by 5, under every number of closed sides
+static void small_gaps(u64 seed) {
+  ENGINE = LITERAL;
+  part = "small sheet with voids";
+  for (u64 i = 0; i < 2 * 512 * 16; i++) {
+    gen::Rng g(seed * 1000003 + i);
+    const u64 voids = i / 16 % 512, border = i / (512 * 16);
+    Desc d;
+    d.rows = d.cols = 3 + 2 * border;
+    d.closed = i % 16;
+    V<i16> e(d.n());
+    for (auto &x : e)
+      x = (i16)g.below(3);
+    for (u64 k = 0; k < 9; k++)
+      if (voids >> k & 1)
+        e[(border + k / 3) * d.cols + border + k % 3] = VOIDMARK;
+    Lengths len{g, false};
+    outlets_rounds(d, e, g, len, i);
   }
   part = "round";
 }
@@ -1317,15 +1554,35 @@ static void tied_drops() {
   part = "round";
 }
 
+// a sheet with voids, as lent and with wrong lengths now and then
+static void gap_rounds(gen::Rng &g, u64 round, u64 side, Lengths len) {
+  Desc d;
+  d.rows = 3 + g.below(side - 2);
+  d.cols = 3 + g.below(side - 2);
+  d.closed = g.chance(40) ? 0 : g.below(16);
+  some_shape(g, d);
+  ENGINE = d.n() <= 100 ? LITERAL : FAST;
+  V<i16> e = gap_sheet(g, round % GAP_FORMS, d), filled = oracle::fill(d, e);
+  d.rows = len.side(d.rows);
+  d.cols = len.side(d.cols);
+  d.closed = len.closed(d.closed);
+  d.width = len.cell(d.width);
+  d.height = len.cell(d.height);
+  outlets_rounds(d, e, g, len, round);
+  directions_round(d, filled, len, round);
+}
+
 static int rounds(u64 count, u64 seed) {
   auto &kinds = gen::kinds();
   auto &bad = gen::badkinds();
   small_sheets(seed);
+  small_gaps(seed);
   tied_drops();
   write_sizes(seed);
   small_lists();
   list_sizes();
   small_crews(seed);
+  voids_met.clear(); // the rounds by themselves
   for (u64 i = 0; i < count; i++) {
     gen::Rng g(seed * 1000003 + i);
     u64 side = g.chance(70) ? 9 : g.chance(70) ? 20 : 40;
@@ -1355,6 +1612,7 @@ static int rounds(u64 count, u64 seed) {
     ponds_round(d, banks, false, g, len, i);
     culvert_round(d, banks, g, len, i);
     outlets_rounds(d, cut_sheet(g, i % FORMS, s.rows, s.cols), g, len, i);
+    gap_rounds(g, i, side, len);
     read_round(gen::badtext(bad[i % bad.size()], g.g() % 1000000), g, i);
     V<i16> any(s.e);
     for (auto &x : any)
@@ -1370,8 +1628,12 @@ static int rounds(u64 count, u64 seed) {
     crews_lists(code_sheet(s.rows, s.cols, codes), g.below(9), 12, g, len.wrong, i);
   }
   printf("compare: %llu rounds, %llu comparisons, all equal\n", (unsigned long long)count, (unsigned long long)checks);
-  printf("compare: up to %llu ponds; %llu cells opened to a lower level, %llu of them on the border, %llu that lower the filled sheet elsewhere\n",
-         (unsigned long long)most_ponds, (unsigned long long)opened_lower, (unsigned long long)opened_border, (unsigned long long)opened_banks);
+  printf("compare: up to %llu ponds; %llu cells opened to a lower level, %llu of them on the border, %llu on the shore of a gap, %llu that lower the filled "
+         "sheet elsewhere\n",
+         (unsigned long long)most_ponds, (unsigned long long)opened_lower, (unsigned long long)opened_border, (unsigned long long)opened_shores,
+         (unsigned long long)opened_banks);
+  printf("compare: sheets with gaps: %llu with water on the shore of one, %llu with a flat there, %llu with other codes than if every void were outside\n",
+         (unsigned long long)wet_shores, (unsigned long long)flat_shores, (unsigned long long)other_ways);
   printf("compare: %llu sheets where a border cell flows inward, %llu with water on such a cell, %llu with one in a flat\n",
          (unsigned long long)inward, (unsigned long long)inward_wet, (unsigned long long)inward_flat);
   printf("compare: %llu texts read whose letters are raised when they are written again; %llu written into just their length, %llu refused a byte less\n",
@@ -1390,14 +1652,16 @@ static int rounds(u64 count, u64 seed) {
          (unsigned long long)total_reached, (unsigned long long)total_kept);
   bool all = every_answer("counts", {0, 5, 6, 7, 8, 9, 11, 12});
   all = every_answer("labels", {0, 5, 6, 7, 8, 9, 11, 12}) && all;
-  all = every_outlets_answer("fill", {0, 5, 6, 17, 7, 8, 9, 18}, {}) && all;
+  const u64 least = count / 20; // of each kind of voids, for each call
+  all = every_outlets_answer("fill", {0, 5, 6, 17, 7, 8, 9, 18}, {}, false, least) && all;
   const V<std::pair<u32, u32>> shape{{5, 20}, {6, 20}, {17, 20}, {20, 7}, {20, 8}, {20, 9}, {20, 18}};
   V<std::pair<u32, u32>> culvert(shape);
   culvert.insert(culvert.end(), {{15, 18}, {16, 18}});
-  all = every_outlets_answer("directions", {0, 5, 6, 17, 20, 7, 8, 9, 18, 10}, shape) && all;
-  all = every_outlets_answer("drain", {0, 5, 6, 17, 20, 7, 8, 9, 18}, shape) && all;
-  all = every_outlets_answer("ponds", {0, 5, 6, 17, 7, 8, 9, 18, 14}, {{18, 14}}) && all;
-  all = every_outlets_answer("culvert", {0, 5, 6, 17, 20, 7, 8, 9, 15, 16, 18}, culvert) && all;
+  all = every_outlets_answer("directions", {0, 5, 6, 17, 20, 7, 8, 9, 18, 10}, shape, false, least) && all;
+  all = every_outlets_answer("drain", {0, 5, 6, 17, 20, 7, 8, 9, 18}, shape, false, least) && all;
+  all = every_outlets_answer("ponds", {0, 5, 6, 17, 7, 8, 9, 18, 14}, {{18, 14}}, false, least) && all;
+  all = every_outlets_answer("culvert", {0, 5, 6, 17, 20, 7, 8, 9, 15, 16, 18}, culvert, true, least) && all;
+  all = all && wet_shores >= least && flat_shores >= least && other_ways >= least && opened_shores >= least;
   all = every_answer("write", {0, 4, 5, 6, 7, 8}) && every_order("write", {{4, 5}, {4, 6}, {4, 7}, {4, 8}, {5, 6}, {5, 7}, {5, 8}, {6, 7}, {6, 8}, {7, 8}}) && all;
   all = every_answer("check_lists", {0, 5, 6, 19}) && every_order("check_lists", {{5, 6}, {5, 19}, {6, 19}}) && all;
   const V<std::pair<u32, u32>> codes_order{{5, 6}, {5, 7}, {5, 9}, {6, 7}, {6, 9}, {7, 9}, {7, 11}, {9, 11}, {9, 12}, {11, 12},
@@ -1416,7 +1680,9 @@ static int rounds(u64 count, u64 seed) {
 
 static int big(const char *kind, u64 side) {
   ENGINE = FAST;
-  auto s = gen::sheet(kind, 7, side, side);
+  const bool gaps = !strcmp(kind, "lakes");
+  // with this seed the voids of 1,000 square leave no island in a gap
+  const gen::Sheet s = gaps ? gen::Sheet{side, side, lakes(side)} : gen::sheet(kind, 3, side, side);
   Desc d;
   d.rows = s.rows;
   d.cols = s.cols;
@@ -1445,8 +1711,13 @@ static int big(const char *kind, u64 side) {
   outlets_rounds(d, s.e, g, len, 0);
   d.closed += SOUTH;
   drain_round(d, s.e, len, 0);
-  if (!answers["culvert"][0]) {
-    fprintf(stderr, "compare: no culvert was opened\n");
+  if (!answers["culvert"][0] || answers["drain"][0] < 2) {
+    fprintf(stderr, "compare: no culvert was opened, or not both the sheet with every side open and that with one were accepted\n");
+    return 1;
+  }
+  auto &met = voids_met["drain"];
+  if (gaps && !(met[LAKE] && met[CLOSED_SIDE] && met[BOTH])) {
+    fprintf(stderr, "compare: no lake is a gap on an accepted sheet\n");
     return 1;
   }
   printf("compare: %s at %llu square, %llu comparisons, all equal\n", kind, (unsigned long long)side, (unsigned long long)checks);
@@ -1454,7 +1725,7 @@ static int big(const char *kind, u64 side) {
 }
 
 int main(int argc, char **argv) {
-  LEVEL = 8;
+  LEVEL = REQUEST;
   if (argc == 4 && !strcmp(argv[1], "big"))
     return big(argv[2], strtoull(argv[3], 0, 10));
   if (argc < 2) {

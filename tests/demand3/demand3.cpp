@@ -1,7 +1,7 @@
 // Demand 3 by brute force on tiny sheets, as a test of the statement: every chain without repeats, every rival sheet from the input up to 2.
 // It looks only at the four results of tervuola_drain and tervuola_culvert and at the sentences of documents 01 and 02, with the elevations
-// handed in as the input, and with the opened sheet, under every number of closed sides and with cells of several shapes. A sheet is refused just where some data cell has no
-// chain to an outlet.
+// handed in as the input, and with the opened sheet, under every number of closed sides, with gaps, and with cells of several shapes. A sheet is
+// refused just where some data cell has no chain to an outlet.
 #include "../../include/tervuola.h"
 #include <cstdio>
 #include <cstdlib>
@@ -21,11 +21,8 @@ static int at_step(int c, int p) {
   return r < 0 || q < 0 || r >= rows || q >= cols ? -1 : r * cols + q;
 }
 static bool data(int c) { return e[(size_t)c] != TERVUOLA_VOID; }
-// the step at p leads out: "through an open side by a straight step", or to a void
-static bool leads_out(int c, int p) {
-  int n = at_step(c, p);
-  if (n >= 0)
-    return !data(n);
+// a straight step at p goes through an open side, where it leads off the sheet
+static bool open_side(int p) {
   switch (1 << p) {
   case TERVUOLA_WEST: return !(sides & TERVUOLA_CLOSED_WEST);
   case TERVUOLA_EAST: return !(sides & TERVUOLA_CLOSED_EAST);
@@ -33,6 +30,41 @@ static bool leads_out(int c, int p) {
   case TERVUOLA_SOUTH: return !(sides & TERVUOLA_CLOSED_SOUTH);
   default: return false;
   }
+}
+static bool on_open_side(int c) {
+  for (int p = 0; p < 8; p++)
+    if (at_step(c, p) < 0 && open_side(p))
+      return true;
+  return false;
+}
+// "a void counts as outside only if neighbouring voids lead from it, itself included, to a void on an open side of the border": a flood from those
+static vector<char> outside;
+static void flood(int c) {
+  if (data(c) || outside[(size_t)c])
+    return;
+  outside[(size_t)c] = 1;
+  for (int p = 0; p < 8; p++)
+    if (at_step(c, p) >= 0)
+      flood(at_step(c, p));
+}
+// to be called for each sheet and its sides
+static void find_outside() {
+  outside.assign(e.size(), 0);
+  for (int c = 0; c < (int)e.size(); c++)
+    if (on_open_side(c))
+      flood(c);
+}
+static bool gap(int c) { return !data(c) && !outside[(size_t)c]; }
+static bool beside_gap(int c) {
+  for (int p = 0; p < 8; p++)
+    if (at_step(c, p) >= 0 && gap(at_step(c, p)))
+      return true;
+  return false;
+}
+// the step at p leads out: "through an open side by a straight step", or to a void that is outside
+static bool leads_out(int c, int p) {
+  int n = at_step(c, p);
+  return n >= 0 ? outside[(size_t)n] != 0 : open_side(p);
 }
 // the first such step in document 01's sequence, as a code; 0 where there is none
 static int outlet_code(int c) {
@@ -131,7 +163,7 @@ static void judge(const Four &four) {
   for (size_t i = 0; i < n; i++) {
     int c = (int)i;
     if (!data(c)) {
-      hold(filled[i] == TERVUOLA_VOID && codes[i] == 0 && counts[i] == 0 && labels[i] == 0, "a void");
+      hold(filled[i] == TERVUOLA_VOID && codes[i] == 0 && counts[i] == 0 && labels[i] == 0, gap(c) ? "a gap" : "a void");
       continue;
     }
     std::set<int> seen;
@@ -150,6 +182,7 @@ static void judge(const Four &four) {
       if (x == c && !outlet(c))
         steepest(filled, c, p);
       int k = at_step(x, p);
+      hold(k < 0 || !gap(k), "that no code points at a gap");
       if (k < 0 || codes[(size_t)k] == 0)
         break;
       x = k;
@@ -188,8 +221,18 @@ static void judge(const Four &four) {
   }
 }
 
-// 0, or 18 with the first data cell that has no chain to an outlet as place; that all have one where it is 0 is for judge to see
-static unsigned long refused = 0;
+// 0, or 18 with the first data cell that has no chain to an outlet as place; that all have one where it is 0 is for judge to see. Refused in all, and
+// where a gap takes the last way out: that cell's chains come to a void.
+static unsigned long refused = 0, islands = 0;
+static bool comes_to_void(int c, vector<char> &on) {
+  on[(size_t)c] = 1;
+  for (int p = 0; p < 8; p++) {
+    int n = at_step(c, p);
+    if (n >= 0 && !on[(size_t)n] && (!data(n) || comes_to_void(n, on)))
+      return true;
+  }
+  return false;
+}
 static bool accepted(tervuola_answer a) {
   if (a.number == 0)
     return true;
@@ -202,6 +245,8 @@ static bool accepted(tervuola_answer a) {
     hold(!data(c) || (best == NO_CHAIN) == (c == (int)a.place), "18 and its place");
   }
   refused++;
+  vector<char> on(e.size(), 0);
+  islands += comes_to_void((int)a.place, on);
   return false;
 }
 static bool drained(Four &r, uint32_t w, uint32_t h) {
@@ -209,15 +254,35 @@ static bool drained(Four &r, uint32_t w, uint32_t h) {
   return accepted(tervuola_drain((uint32_t)rows, (uint32_t)cols, sides, w, h, e.data(), n, r.filled.data(), n, r.codes.data(), n, r.counts.data(), n,
                                  r.labels.data(), n, r.work.data(), 4 * n));
 }
+// accepted sheets with a gap beside a data cell, within the border and on closed sides, those of them where a cell beside a gap has water on it, and
+// accepted sheets with gaps and with voids that are outside; accepted sheets with gaps and no data cell
+static unsigned long inner_gaps = 0, side_gaps = 0, wet_shores = 0, both_voids = 0, no_data = 0;
+static void count_gaps(const vector<int16_t> &filled) {
+  bool inner = false, side = false, wet = false, out = false, some = false;
+  for (int c = 0; c < (int)e.size(); c++) {
+    bool border = c < cols || c >= (rows - 1) * cols || c % cols == 0 || c % cols == cols - 1;
+    some = some || data(c);
+    out = out || outside[(size_t)c];
+    wet = wet || (data(c) && beside_gap(c) && filled[(size_t)c] > e[(size_t)c]);
+    (border ? side : inner) |= gap(c);
+  }
+  inner_gaps += some && inner;
+  side_gaps += some && side;
+  wet_shores += wet;
+  both_voids += some && out && (inner || side);
+  no_data += !some && (inner || side);
+}
 // sheets in all, accepted ones with water against a closed side, and those whose codes are not the ones that square cells give
 static unsigned long sheets = 0, closed_lakes = 0, other_codes = 0;
 static void plain_sheet() {
   Four r(e.size()), square(e.size());
   next_shape();
+  find_outside();
   sheets++;
   if (!drained(r, width, height))
     return;
   judge(r);
+  count_gaps(r.filled);
   hold(drained(square, 1, 1) && square.filled == r.filled, "the same filled sheet with square cells");
   hold(width != height || square.codes == r.codes, "the same codes with square cells of any width");
   other_codes += square.codes != r.codes;
@@ -229,14 +294,15 @@ static void plain_sheet() {
   closed_lakes += lake;
 }
 
-// culverts in all, and those at an inner cell and at an outlet that lower the filled sheet at another cell
-static unsigned long opened = 0, inner_banks = 0, outlet_banks = 0;
+// culverts in all, and those at an inner cell, at an outlet, and beside a gap and no outlet, that lower the filled sheet at another cell
+static unsigned long opened = 0, inner_banks = 0, outlet_banks = 0, shore_banks = 0;
 // the call has the elevations as they were handed in, which stay as they were, and is judged on the opened sheet
 static void opened_sheet(size_t cell, int16_t level) {
   size_t n = e.size();
   Four plain(n), r(n);
   vector<int16_t> given(e), kept(e);
   next_shape();
+  find_outside(); // a culvert makes no void
   bool was = drained(plain, width, height);
   e[cell] = level;
   bool is = accepted(tervuola_culvert((uint32_t)rows, (uint32_t)cols, sides, width, height, given.data(), n, (uint32_t)cell, level, r.filled.data(),
@@ -247,8 +313,10 @@ static void opened_sheet(size_t cell, int16_t level) {
   if (is) {
     judge(r);
     plain.filled[cell] = r.filled[cell];
-    if (plain.filled != r.filled)
+    if (plain.filled != r.filled) {
       (outlet((int)cell) ? outlet_banks : inner_banks)++;
+      shore_banks += !outlet((int)cell) && beside_gap((int)cell);
+    }
   }
   e = kept;
 }
@@ -303,9 +371,44 @@ int main() {
       e[0] = TERVUOLA_VOID;
     opened_sheet(bank, (int16_t)((int)(g() % 2) - 1));
   }
+  for (int k = 0; k < 1200; k++) { // lakes: all or most of what lies within the border, and now and then a void on it
+    static const int sizes[6][2] = {{3, 3}, {3, 4}, {4, 3}, {4, 4}, {3, 5}, {5, 3}};
+    rows = sizes[k % 6][0], cols = sizes[k % 6][1];
+    sides = g() % 3 ? g() % 16 : 0;
+    e.assign((size_t)(rows * cols), 0);
+    size_t inner = (size_t)((rows - 2) * (cols - 2)), kept = inner > 1 && g() % 2 ? g() % inner : inner;
+    for (int r = 0, i = 0; r < rows; r++)
+      for (int q = 0; q < cols; q++) {
+        bool border = r == 0 || q == 0 || r == rows - 1 || q == cols - 1;
+        bool is_void = border ? g() % 12 == 0 : (size_t)i++ != kept;
+        e[(size_t)(r * cols + q)] = is_void ? (int16_t)TERVUOLA_VOID : (int16_t)(border ? 2 - g() % 5 / 2 : g() % 3);
+      }
+    plain_sheet();
+    size_t c = g() % e.size();
+    if (data((int)c))
+      opened_sheet(c, (int16_t)((int)(g() % (unsigned)(e[c] + 2)) - 1));
+  }
+  for (int k = 0; k < 200; k++) { // an island in a gap, with a way to it now and then
+    rows = cols = 5;
+    sides = g() % 3 ? g() % 16 : 0;
+    e.assign(25, 2);
+    for (int c = 0; c < 25; c++) {
+      int r = c / 5 - 2, q = c % 5 - 2, ring = r * r > q * q ? r * r : q * q;
+      e[(size_t)c] = ring == 1 ? (int16_t)TERVUOLA_VOID : (int16_t)(2 - (g() % 3 == 0));
+    }
+    static const size_t around[8] = {6, 7, 8, 11, 13, 16, 17, 18};
+    if (k % 4 == 0)
+      e[around[g() % 8]] = (int16_t)(1 + g() % 2);
+    plain_sheet();
+  }
   printf("demand 3: %lu facts on %lu tiny sheets under all closed sides, and on %lu opened ones, %lu of them through an inner bank, %lu at an outlet\n",
          facts, sheets, opened, inner_banks, outlet_banks);
   printf("demand 3: %lu sheets of oblong cells with other codes than square ones have\n", other_codes);
-  printf("demand 3: %lu sheets with water on a border cell that is no outlet; %lu times no chain to an outlet, and 18\n", closed_lakes, refused);
-  return inner_banks && outlet_banks && closed_lakes && refused && other_codes ? 0 : 1;
+  printf("demand 3: %lu sheets with water on a border cell that is no outlet; %lu times no chain to an outlet, and 18, %lu of them beside a gap\n", closed_lakes,
+         refused, islands);
+  printf("demand 3: accepted sheets with gaps: %lu within the border, %lu on closed sides, %lu with water beside one, %lu with voids that are outside too, %lu "
+         "without data; %lu culverts beside one that lower the filled sheet elsewhere\n",
+         inner_gaps, side_gaps, wet_shores, both_voids, no_data, shore_banks);
+  bool gaps = inner_gaps > 100 && side_gaps > 100 && wet_shores > 100 && both_voids > 100 && islands > 100 && shore_banks > 20 && no_data;
+  return gaps && inner_banks && outlet_banks && closed_lakes && refused && other_codes ? 0 : 1;
 }

@@ -1,7 +1,8 @@
 /*
  * What is shown of the ponds, cell by cell on a large sheet, with the library's own filled sheet and no other program.
  *   facts FORM SIDE [CLOSED]
- * Forms: noise, rings (ponds on islands of ponds), diagonals (ponds joined at corners alone), bowl (one pond, as deep as can be), voids.
+ * Forms: noise, rings (ponds on islands of ponds), diagonals (ponds joined at corners alone), bowl (one pond, as deep as can be), voids, lakes (one pond
+ * round square gaps).
  * CLOSED is the number of the closed sides, 0 where it is left out.
  */
 #include "tervuola.h"
@@ -46,6 +47,7 @@ static int16_t elevation(uint32_t side, uint32_t r, uint32_t q)
     if (!strcmp(form, "rings")) return (int16_t)(ring % 2 ? -2000 : (int)ring - 1000);
     if (!strcmp(form, "diagonals")) return (int16_t)(ring && (r + q) % 3 == 0 ? -(int)(random_bits() % 100) : 7);
     if (!strcmp(form, "bowl")) return (int16_t)(ring ? -32767 : 32767);
+    if (!strcmp(form, "lakes")) return (int16_t)(ring == 0 ? 50 : r % 8 > 3 && q % 8 > 3 ? TERVUOLA_VOID : (int)(random_bits() % 50));
     if (!strcmp(form, "voids")) return (int16_t)(random_bits() % 9 ? (int)(random_bits() % 5) - 2 : TERVUOLA_VOID);
     printf("ponds: no form %s\n", form);
     exit(2);
@@ -131,6 +133,7 @@ int main(int argc, char **argv)
     }
     holds(members == wet, "the cells add up to the wet cells");
     holds(volumes == differences, "the volumes add up to the sum of the differences over the whole sheet");
+    if (!strcmp(form, "lakes")) holds(count == 1 && level[0] == 50, "one pond round the gaps");
     if (!strcmp(form, "bowl")) holds(count == 1 && volume[0] == (uint64_t)(side - 2) * (side - 2) * 65534, "the deepest pond");
     printf("ponds: %s at %u square, closed sides %u: %u ponds, %llu of %llu cells wet, volume %llu\n", form, (unsigned)side, (unsigned)closed,
            (unsigned)count, (unsigned long long)wet, (unsigned long long)n, (unsigned long long)volumes);

@@ -2,7 +2,7 @@
 use mathlib.Core.Path.{_≡_, refl, sym, _∙_, ap, subst}
 use mathlib.Core.Bool.{true}
 use mathlib.Core.List.{List, [], _∷_}
-use Prim.Native.Nat.{ℕ, _<_}
+use Prim.Native.Nat.{ℕ}
 use native.Mathlib.Omega.{arith}
 use lib.ListN.{length}
 use lib.IntN.{ℤ}
@@ -12,7 +12,6 @@ use Rattle.grid.specs.Sheet.{size, isData}
 use Rattle.grid.specs.Culvert.{opened, isLevelFor}
 use Rattle.grid.specs.Checks.{accepted, askFlow, askWork, askCulvert, askReach, culvertCheck}
 use Rattle.grid.specs.Promises.{FourResults, CulvertPromise}
-use Rattle.grid_laws.proofs.Cells.{on-sheet}
 use Rattle.cells.specs.Keys.{levelOf}
 use Rattle.checks.proofs.Gate.{Gate, one, both, passed, answered-no, answered-yes}
 use Rattle.checks.proofs.Asked.{FlowSized, flow-check-gate}
@@ -48,11 +47,11 @@ module _ (g : Grid) (e : List ℤ) (cell : ℕ) (level : ℤ) (f k a l w : ℕ) 
     asked-yes z s q = q ∙ answered-yes before-15 answered z (askCulvert e cell level accepted)
 
   module _ (r : Answer) (answered : r ≡ askedTo16 g e cell level f k a l w accepted) where
-    pub fits : r .number ≡ 0 → Measured g f k a l w × (length e ≡ size g) × (cell < size g)
+    pub fits : r .number ≡ 0 →
+        Measured g f k a l w × (length e ≡ size g) × (isData e cell ≡ true) × (isLevelFor e cell level ≡ true)
     fits z =
         let yes = passed before-18 answered z .fact in
-        let cells = yes .0 .inputs-have .0 in
-        (measured g (length e) f k a l w (yes .0), cells, on-sheet g e cells cell (yes .1 .0))
+        (measured g (length e) f k a l w (yes .0), yes .0 .inputs-have .0, yes .1 .0, yes .1 .1)
 
     -- a no stands, and after a yes the answer is that to 18 of the opened sheet
     check-no : (r .number ≡ 0 → ⊥) → r ≡ culvertCheck g e cell level f k a l w

@@ -5,9 +5,10 @@
 use grid::Answer;
 use grid::Grid;
 ghost use mathlib.Core.Path.{_≡_};
+ghost use mathlib.Core.Bool.{true};
 ghost use Prim.Native.Nat.{_<_};
 ghost use lib.ListN.{length};
-ghost use Rattle.grid.specs.Sheet.{size};
+ghost use Rattle.grid.specs.Sheet.{size, isData};
 ghost use Rattle.grid.specs.Culvert.{opened};
 ghost use Rattle.grid.specs.Checks.{accepted, askReach};
 ghost use Rattle.grid.specs.Promises.{FourResults, CulvertPromise};
@@ -51,15 +52,15 @@ fn drain_opened(
 ) -> Answer
     requires { ⌜ Measured g (length (now filled)) (length (now codes)) (length (now counts)) (length (now labels)) (length (now work)) ⌝ }
     requires { ⌜ length (now elevations) ≡ size g ⌝ }
-    requires { ⌜ cell < size g ⌝ }
-    requires { ⌜ key < 65536 ⌝ }
+    requires { ⌜ isData (now elevations) cell ≡ true ⌝ }
+    requires { ⌜ (0 < key) × (key < 65536) ⌝ }
     ensures { λ r. ⌜ r ≡ askReach g (opened (now (elevations .entry)) cell (levelOf key)) accepted ⌝ }
     ensures { λ r. ⌜ FourResults g (opened (now (elevations .entry)) cell (levelOf key)) (now (filled .entry)) (now (filled .exit))
         (now (codes .entry)) (now (codes .exit)) (now (counts .entry)) (now (counts .exit)) (now (labels .entry)) (now (labels .exit)) r ⌝ }
 {
     fill::load(elevations, work);
     culvert_cell::open_cell(work, cell, key);
-    drainage::drain_loaded(g, filled, codes, counts, labels, work)
+    drainage::drain_loaded(g, elevations, filled, codes, counts, labels, work)
 }
 
 // The four results of the sheet with the cell at the level.

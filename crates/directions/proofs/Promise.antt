@@ -12,14 +12,15 @@ use Rattle.grid.specs.declared.Grid.{Grid}
 use Rattle.grid.specs.declared.Answer.{Answer}
 use Rattle.grid.specs.Sheet.{size, isData}
 use Rattle.grid.specs.Directions.{levels, directions, firstUnlevelled}
-use Rattle.grid.specs.Checks.{refusal, accepted, askCell, askFlow, askWork, askReach, directionsCheck}
+use Rattle.grid.specs.Checks.{refusal, accepted, isAccepted, askCell, askFlow, askWork, askReach, directionsCheck}
 use Rattle.grid.specs.Promises.{DirectionsPromise}
-use Rattle.grid_laws.proofs.Tests.{cond-true, cond-false}
+use Rattle.grid_laws.proofs.Tests.{T-true, true-false, cond-true, cond-false}
 use Rattle.grid_laws.proofs.Below.{first-≤}
 use Rattle.checks.proofs.Gate.{Gate, kept, passed, answered-no, answered-yes, is-accepted}
 use Rattle.shape_laws.specs.Shaped.{Shaped}
 use Rattle.checks.proofs.Asked.{FlowSized, flow-check-gate, one-flow-result}
 use Rattle.checks.proofs.Questions.{cell-no, cell-yes, reach-yes, reach-above, reach-late, Late, number-late, yes-is-late}
+use Rattle.guarantee_laws.proofs.Gaps.{gaps-aside}
 use Rattle.directions.proofs.Reached.{levelled-reach}
 
 unlevelled-≤ : (g : Grid) (e : List ℤ) → firstUnlevelled g e ≤ size g
@@ -43,6 +44,7 @@ module _ (g : Grid) (e : List ℤ) (c₀ w₀ : List ℕ) (r : Answer)
         answer = answered-no before-18 answered n _;
         result = kept n (directions g e);
         work = record { same-length = refl; untouched = λ _. refl };
+        gaps = λ t. true-false (T-true (isAccepted r) t) (ne-eqb (r .number) 0 n);
       }
 
   pub accepted-sizes : r .number ≡ 0 → (size g < 2 ^ 24) × (length e ≡ size g) × (length c₀ ≡ size g) × (4 * size g ≤ length w₀)
@@ -70,6 +72,7 @@ module _ (g : Grid) (e : List ℤ) (c₀ w₀ : List ℕ) (r : Answer)
               codes ∙ cond-false (directions g e) c₀ (ne-eqb first (size g) other)
               ∙ sym (cond-false (directions g e) c₀ (ne-eqb (a .number) 0 (subst Above (sym q) above)));
           work = record { same-length = same; untouched = λ t. absurd (subst Late (sym q) (reach-late g e (refusal 10 first) late-10) t) };
+          gaps = λ t. true-false (T-true (isAccepted a) t) (ne-eqb (a .number) 0 (subst Above (sym q) above));
         }
       where
         Above : Answer → Type 0
@@ -100,4 +103,5 @@ module _ (g : Grid) (e : List ℤ) (c₀ w₀ : List ℕ) (r : Answer)
               ∙ cond-true (directions g e) c₀ (eq-eqb first (size g) h)
               ∙ sym (cond-true (directions g e) c₀ (eq-eqb (r .number) 0 z));
           work = record { same-length = same; untouched = λ t. absurd (yes-is-late z t) };
+          gaps = λ t. rw (codes ∙ cond-true (directions g e) c₀ (eq-eqb first (size g) h)) (gaps-aside g e e (λ c. refl) s);
         }

@@ -17,7 +17,7 @@ use Rattle.grid.specs.Outlet.{isOutlet, firstStranded}
 use Rattle.grid.specs.Directions.{levels, directions, firstUnlevelled}
 use Rattle.grid.specs.Routes.{positionAt, receiver}
 use Rattle.grid_laws.proofs.Tests.{test, T-true, true-T, not-false-true, and-rest-false}
-use Rattle.grid_laws.proofs.Below.{first-all, count-fewer}
+use Rattle.grid_laws.proofs.Below.{positive, first-all, count-fewer}
 use Rattle.grid_laws.proofs.Order.{≤ℤ-trans, <ℤ→≤ℤ, ≤ℤ-not-<, not-<-≤ℤ}
 use Rattle.grid_laws.proofs.Cells.{on-sheet}
 use Rattle.flow_laws.specs.Leads.{LeadsDown}
@@ -33,11 +33,7 @@ module _ (g : Grid) (e : List ℤ) (len : length e ≡ size g) (levelled : first
   unfolding firstUnlevelled
   has-level c d =
       let f = first-all (size g) (λ x. isData e x && eqb (getD (levels g e) x 0) 0) levelled c (on-sheet g e len c d) in
-      above (getD (levels g e) c 0) (eqb-false (getD (levels g e) c 0) 0 (and-rest-false (isData e c) _ d f))
-    where
-      above : (x : ℕ) → (x ≡ 0 → ⊥) → 0 < x
-      above zero f = absurd (f refl)
-      above (suc x) f = omega arith
+      positive (getD (levels g e) c 0) (eqb-false (getD (levels g e) c 0) 0 (and-rest-false (isData e c) _ d f))
 
   -- how many cells are lower
   height : ℤ → ℕ

@@ -1,5 +1,5 @@
--- The steps of the program, one after the other: what was read is what the definitions say, the one call accepts it, and what is printed
--- is the definition's text.
+-- The steps of the program, one after the other: what was read is what the definitions say, the one call answers 18 of it, and what is
+-- printed is the definition's text.
 use mathlib.Core.Path.{_≡_, refl, ap, ap₂, _∙_}
 use mathlib.Core.Bool.{true, _&&_}
 use mathlib.Core.List.{List}
@@ -13,12 +13,10 @@ use Rattle.grid.specs.declared.Grid.{Grid}
 use Rattle.grid.specs.declared.Answer.{Answer}
 use Rattle.grid.specs.declared.Dimensions.{Dimensions}
 use Rattle.grid.specs.Sheet.{gridOf, size}
-use Rattle.grid.specs.Outlet.{firstStranded}
-use Rattle.grid.specs.Checks.{accepted, askSize, allHave, askLengths, askSides, inShape, askShape, askFlow, askWork, askReach}
+use Rattle.grid.specs.Checks.{accepted, isAccepted, askSize, allHave, askLengths, askSides, inShape, askShape, askFlow, askWork, askReach}
 use Rattle.grid.specs.Checks.{drainCheck}
 use Rattle.grid.specs.Frames.{textGrid, readCheck, resultText, refusalText, drainText, programText}
 use Rattle.grid.specs.Promises.{ReadPromise, DrainPromise}
-use Rattle.fill_laws.proofs.Left.{open-reach}
 use Rattle.checks.proofs.Asked.{range-of}
 use Rattle.text_laws.proofs.Asked.{FewCells, read-asked, read-rows, read-cols, read-sheet}
 use Rattle.frames.specs.Printed.{Printed, Sheets, resultLength}
@@ -69,17 +67,16 @@ module _ (g : Grid) (e filled₀ filled₁ : List ℤ) (codes₀ codes₁ counts
   unfolding inShape
   square-cells = rw (small .square .0, small .square .1) refl
 
-  -- the one call accepts
-  accepts : r ≡ accepted
-  unfolding drainCheck askFlow askSides askShape askLengths askSize askWork askReach allHave
-  accepts =
+  -- of the questions only 18 can be answered by a no
+  answers : r ≡ askReach g e accepted
+  unfolding drainCheck askFlow askSides askShape askLengths askSize askWork allHave
+  answers =
       p .answer
       ∙ rw (
         range-of (small .fits .rows-low) (small .fits .rows-high),
         range-of (small .fits .cols-low) (small .fits .cols-high),
         le-leb (g .sides) 15 (let z = small .no-sides in omega arith),
         square-cells,
-        eq-eqb (firstStranded g e) (size g) (open-reach g (small .no-sides) e (small .elevations-size)),
         eq-eqb (length e) (size g) (small .elevations-size),
         eq-eqb (length filled₀) (size g) (lent .filled-size),
         eq-eqb (length codes₀) (size g) (lent .codes-size),
@@ -88,11 +85,20 @@ module _ (g : Grid) (e filled₀ filled₁ : List ℤ) (codes₀ codes₁ counts
         le-leb (4 * size g) (length work₀) (lent .work-size),
       )
 
-  -- so its results are the definition's, and so is their text
-  pub results-printed : (out₁ : List ℕ) (n : ℕ) → Printed (resultText g filled₁ codes₁ counts₁ labels₁) out₀ out₁ n
+  -- after a yes its results are the definition's, and so is their text
+  pub results-printed : (out₁ : List ℕ) (n : ℕ) → r .number ≡ 0 → Printed (resultText g filled₁ codes₁ counts₁ labels₁) out₀ out₁ n
       → Printed (drainText g e) out₀ out₁ n
   unfolding drainText
-  results-printed out₁ n q = let r = p .four in rw (r .filled, r .codes, r .counts, r .labels, accepts) at q
+  results-printed out₁ n z q =
+      let f = p .four in
+      let b : isAccepted r ≡ true = eq-eqb (r .number) 0 z in
+      rw (← answers, b) (rw (f .filled, f .codes, f .counts, f .labels, b) at q)
+
+  -- and a no is its line
+  pub refusal-printed : (out₁ : List ℕ) (n : ℕ) → (r .number ≡ 0 → ⊥) → Printed (refusalText r) out₀ out₁ n →
+      Printed (drainText g e) out₀ out₁ n
+  unfolding drainText
+  refusal-printed out₁ n f q = rw (← answers, ne-eqb (r .number) 0 f) q
 
 -- its results have the sizes that the printing asks for
 pub results-fit : (g : Grid) (e filled₀ filled₁ : List ℤ) (codes₀ codes₁ counts₀ counts₁ labels₀ labels₁ work₀ out₀ : List ℕ)

@@ -1,6 +1,6 @@
 // The program as one call from text to text: what `drain` reads to what it prints. The text is read into a local sheet; a no is printed as
-// its line, and an accepted sheet is drained into local sheets, which are printed as frames. Each step's promise is an equation on lists,
-// and one after the other they are the definition `programText`.
+// its line, and an accepted sheet is drained into local sheets, which are printed as frames, or the no to 18 as its line. Each step's
+// promise is an equation on lists, and one after the other they are the definition `programText`.
 ghost use Prim.Native.Nat.{_≤_};
 ghost use lib.ListN.{length};
 ghost use Rattle.grid.specs.Frames.{drainText, programText};
@@ -9,7 +9,7 @@ ghost use Rattle.drain_text.specs.Room.{Small, Lent};
 use grid::Answer;
 use grid::Grid;
 
-// The four results of a sheet, in lent sheets of its size, and then as text.
+// The four results of a sheet, in lent sheets of its size, and then as text, or the no to 18.
 fn drain_into(
     g: Grid,
     elevations: &[i16],
@@ -23,7 +23,10 @@ fn drain_into(
     requires { ⌜ Small g (now elevations) (now out) × Lent g (now filled) (now codes) (now counts) (now labels) (now work) ⌝ }
     ensures { λ r. ⌜ Printed (drainText g (now (elevations .entry))) (now (out .entry)) (now (out .exit)) r ⌝ }
 {
-    drainage::drain(g, elevations, filled, codes, counts, labels, work);
+    let answer = drainage::drain(g, elevations, filled, codes, counts, labels, work);
+    if answer.number != 0 {
+        return frames::write_refusal(answer, out);
+    }
     frames::write_results(g, filled, codes, counts, labels, out)
 }
 

@@ -17,12 +17,14 @@ use Rattle.grid.specs.Directions as D
 use Rattle.grid.specs.Routes as R
 use Rattle.grid.specs.Checks.{refusal, accepted, isAccepted, askReach}
 use Rattle.grid.specs.Guarantee.{Guarantee}
+use Rattle.grid.specs.Gaps.{GapsAside}
 use Rattle.grid.specs.Promises.{FourResults}
 use Rattle.grid_laws.proofs.Tests.{T-true, true-false, cond-true, cond-false}
 use Rattle.checks.proofs.Gate.{kept}
 use Rattle.checks.proofs.Asked.{FlowSized}
 use Rattle.checks.proofs.Questions.{reach-no}
 use Rattle.guarantee_laws.proofs.OneCall.{guaranteed}
+use Rattle.guarantee_laws.proofs.Gaps.{filled-aside}
 use Rattle.drainage.specs.Results.{Measured}
 
 -- what questions 5 to 9 say of the buffers
@@ -55,6 +57,7 @@ module _ (g : Grid) (input f₀ f₁ : List ℤ) (k₀ a₀ l₀ : List ℕ) (r 
         counts = kept n (R.counts g (D.directions g (F.filled g input)));
         labels = kept n (R.labels g (D.directions g (F.filled g input)));
         demand3 = λ t. true-false (T-true (isAccepted r) t) (ne-eqb (r .number) 0 n);
+        gaps = λ t. true-false (T-true (isAccepted r) t) (ne-eqb (r .number) 0 n);
       }
 
   -- a yes: the four results, and demand 3 about them
@@ -63,6 +66,9 @@ module _ (g : Grid) (input f₀ f₁ : List ℤ) (k₀ a₀ l₀ : List ℕ) (r 
       (counts : a₁ ≡ R.counts g k₁) (labels : l₁ ≡ R.labels g k₁) where
     demanded : Guarantee g input f₁ k₁ a₁ l₁
     demanded = rw (labels, counts) (rw codes (rw fills (guaranteed g input cells range reach)))
+
+    aside : GapsAside g input f₁ k₁
+    aside = rw codes (rw fills (filled-aside g input cells range))
 
     pub four-of-yes : FourResults g input f₀ f₁ k₀ k₁ a₀ a₁ l₀ l₁ r
     four-of-yes =
@@ -73,6 +79,7 @@ module _ (g : Grid) (input f₀ f₁ : List ℤ) (k₀ a₀ l₀ : List ℕ) (r 
           counts = counts ∙ ap (R.counts g) codes ∙ sym (cond-true (R.counts g (D.directions g (F.filled g input))) a₀ b);
           labels = labels ∙ ap (R.labels g) codes ∙ sym (cond-true (R.labels g (D.directions g (F.filled g input))) l₀ b);
           demand3 = λ t. demanded;
+          gaps = λ t. aside;
         }
 
 -- ---- the answer to 18, with the four results: `first` is what the fill of the loaded sheet answers

@@ -3,7 +3,7 @@
 use mathlib.Core.Path.{_≡_, sym, _∙_, ap, subst}
 use mathlib.Core.Bool.{cond}
 use mathlib.Core.List.{List}
-use Prim.Native.Nat.{ℕ, _-_, _/_, _≤_}
+use Prim.Native.Nat.{ℕ, _+_, _-_, _/_, _≤_}
 use native.Mathlib.Omega.{arith}
 use lib.Dec.{eqb}
 use lib.ListN.{length, take, drop}
@@ -16,11 +16,23 @@ use Rattle.grid.specs.Fill.{filled}
 use Rattle.grid.specs.Directions.{directions, firstUnlevelled}
 use Rattle.grid.specs.Routes.{firstEndless}
 use Rattle.grid_laws.proofs.Tests.{cond-true}
+use Rattle.cells.specs.Marks.{Marked}
+use Rattle.fill_laws.proofs.Filled.{filled-data}
+use Rattle.fill.proofs.Voids.{marked-same}
 use Rattle.route_laws.specs.Receivers.{AllCodes}
 use Rattle.checks.proofs.Room.{half-room}
 use Rattle.checks.proofs.Questions.{stranded-≤}
 use Rattle.guarantee_laws.proofs.OneCall.{all-levelled, codes-length, all-codes, all-end}
 use Rattle.drainage.specs.Results.{Measured, Routable}
+
+-- the filled sheet has the input's voids, so their marks serve for it
+pub filled-marked : (g : Grid) (e f₀ f₁ : List ℤ) (work : List ℕ) (s l m : ℕ) → length e ≡ size g → SixteenBits e → s ≡ firstStranded g e
+    → size g ≤ s → f₁ ≡ cond (eqb s (size g)) (filled g e) f₀ → m ≡ l → Marked g e (l / 2 + size g) work →
+    Marked g f₁ (m / 2 + size g) work
+filled-marked g e f₀ f₁ work s l m cells range stranded none written same M =
+    let all : s ≡ size g = (let most = stranded-≤ g e in omega arith) in
+    let fills : f₁ ≡ filled g e = written ∙ cond-true (filled g e) f₀ (eq-eqb s (size g) all) in
+    rw fills (rw same (marked-same g e (filled g e) (l / 2 + size g) work (λ c. sym (filled-data g e cells range c)) M))
 
 module _ (g : Grid) (e f₀ f₁ : List ℤ) (k₀ k₁ : List ℕ) (f k a l w s r : ℕ) (M : Measured g f k a l w) (cells : length e ≡ size g)
     (range : SixteenBits e) (stranded : s ≡ firstStranded g e) (none : f ≤ s) (written : f₁ ≡ cond (eqb s (size g)) (filled g e) f₀)

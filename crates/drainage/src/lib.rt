@@ -12,7 +12,7 @@ ghost use Rattle.grid.specs.Routes.{counts as counts', labels as labels'};
 ghost use Rattle.grid.specs.Checks.{accepted, askReach};
 ghost use Rattle.grid.specs.Promises.{FourResults, DrainPromise};
 ghost use Rattle.key_sort.specs.Order.{AreKeys};
-ghost use Rattle.fill.specs.Words.{sheetIn};
+ghost use Rattle.fill.specs.Words.{sheetIn, SameVoids};
 ghost use Rattle.drainage.specs.Results.{Measured, Routable};
 
 // Counts and labels of the codes, from one list of receivers at the front of the lent tail: the counts leave it as it is, the labels take
@@ -29,8 +29,10 @@ fn route_results(g: Grid, codes: &[u8], counts: &mut [u32], labels: &mut [u32], 
 }
 
 // Question 18 of the sheet whose keys stand in the work buffer, and after a yes its four results, on buffers of the right lengths.
+// `elevations` has the same voids.
 pub fn drain_loaded(
     g: Grid,
+    elevations: &[i16],
     filled: &mut [i16],
     codes: &mut [u8],
     counts: &mut [u32],
@@ -38,12 +40,14 @@ pub fn drain_loaded(
     work: &mut [u32],
 ) -> Answer
     requires { ⌜ Measured g (length (now filled)) (length (now codes)) (length (now counts)) (length (now labels)) (length (now work)) ⌝ }
+    requires { ⌜ length (now elevations) ≡ size g ⌝ }
     requires { ⌜ AreKeys (size g) (now work) ⌝ }
+    requires { ⌜ SameVoids g (now elevations) (now work) ⌝ }
     ensures { λ r. ⌜ r ≡ askReach g (sheetIn (size g) (now (work .entry))) accepted ⌝ }
     ensures { λ r. ⌜ FourResults g (sheetIn (size g) (now (work .entry))) (now (filled .entry)) (now (filled .exit)) (now (codes .entry))
         (now (codes .exit)) (now (counts .entry)) (now (counts .exit)) (now (labels .entry)) (now (labels .exit)) r ⌝ }
 {
-    let first = fill::fill_loaded(g, filled, work);
+    let first = fill::fill_loaded(g, elevations, filled, work);
     if first < filled.len() {
         return Answer {
             number: 18,
@@ -86,5 +90,5 @@ pub fn drain(
         return answer;
     }
     fill::load(elevations, work);
-    drain_loaded(g, filled, codes, counts, labels, work)
+    drain_loaded(g, elevations, filled, codes, counts, labels, work)
 }

@@ -1,4 +1,4 @@
--- What the flood leaves is the filled sheet: the data cells, neighbours and outlets that it sees by keys are those of the elevations, so
+-- What the flood leaves is the filled sheet: the data cells, neighbours and outlets that it sees by keys and marks are those of the sheet, so
 -- its state at the end is the certificate of fill_laws.
 use mathlib.Core.Path.{_≡_, sym, _∙_, ap, ap₂, subst}
 use mathlib.Core.Bool.{true, false, not, _&&_}
@@ -14,15 +14,17 @@ use lib.Signed.{_≤ℤ_}
 use borrow.Author.Tests.{lt-ltb, ltb-true, eq-eqb, ne-eqb}
 use Rattle.grid.specs.declared.Grid.{Grid}
 use Rattle.grid.specs.Sheet.{size, higher, at, isData, DataCell, neighbour, SixteenBits}
-use Rattle.grid.specs.Outlet.{isOutlet, leavesAt, Outlet, drained, firstStranded}
+use Rattle.grid.specs.Outlet.{isOutside, isOutlet, leavesAt, Outlet, drained, firstStranded}
 use Rattle.grid.specs.Fill.{filled}
-use Rattle.grid_laws.proofs.Tests.{test, T-true, true-T, true-false, not-true-false, not-of-true, not-of-false, not-is-true}
-use Rattle.grid_laws.proofs.Tests.{and-false-left, and-false-right}
+use Rattle.grid_laws.proofs.Tests.{test, T-true, true-T, true-false, not-true-false, not-false-true, not-of-true, not-of-false}
+use Rattle.grid_laws.proofs.Tests.{and-false-left, and-false-right, cond-true, cond-false}
 use Rattle.grid_laws.proofs.Order.{≤ℤ-trans, ≤ℤ-of-eq, ≤-higher-left, ≤-higher-right}
 use Rattle.grid_laws.proofs.Cells.{on-sheet, no-data-void}
 use Rattle.grid_laws.proofs.Neighbours.{neighbour-≤}
-use Rattle.grid_laws.proofs.Outlets.{leaves-off, leaves-on, outlet-data, outlet-leaves, leaves-outlet}
+use Rattle.grid_laws.proofs.Outlets.{void-of, void-no-data, outside-void, leaves-off, leaves-on, outlet-data, outlet-leaves}
+use Rattle.grid_laws.proofs.Outlets.{leaves-outlet}
 use Rattle.cells.specs.Keys.{keyOf, levelOf}
+use Rattle.cells.specs.Marks.{Marked}
 use Rattle.cells.proofs.Keys.{data-key, zero-no-data, key-void, level-key, level-mono, level-void}
 use Rattle.key_sort.specs.Order.{Ahead}
 use Rattle.flood_laws.specs.Flood.{CellOf, NextTo, LeavesOf, OutletOf, Between}
@@ -35,7 +37,7 @@ use Rattle.fill_laws.proofs.Reach.{drained-way, way-drained, some-way}
 use Rattle.fill_laws.proofs.Certified.{certificate-filled}
 
 module _ (g : Grid) (e : List ℤ) (f : List ℕ) (cells : length e ≡ size g) (range : SixteenBits e)
-    (keys : (c : ℕ) → c < size g → getD f c 0 ≡ keyOf (at e c)) where
+    (keys : (c : ℕ) → c < size g → getD f c 0 ≡ keyOf (at e c)) (marks : Marked g e (size g + size g) f) where
   -- ---- cells, neighbours and outlets by keys are those of the sheet
   cell-to : (c : ℕ) → DataCell e c → CellOf (size g) f c
   cell-to c t =
@@ -60,14 +62,21 @@ module _ (g : Grid) (e : List ℤ) (f : List ℕ) (cells : length e ≡ size g) 
       go (no n) =
           let most = neighbour-≤ g c p h in
           let on : neighbour g c p < size g = omega arith in
-          let v = not-is-true (isData e (neighbour g c p)) (sym (leaves-on g e c p n) ∙ l) in
-          inr (on, keys (neighbour g c p) on ∙ ap keyOf (no-data-void e (neighbour g c p) v) ∙ key-void)
+          let o = sym (leaves-on g e c p n) ∙ l in
+          let v = outside-void g e (neighbour g c p) o in
+          inr (
+            on,
+            keys (neighbour g c p) on ∙ ap keyOf (no-data-void e (neighbour g c p) (void-no-data g e (neighbour g c p) v)) ∙ key-void,
+            marks (neighbour g c p) v ∙ cond-true 2 1 o,
+          )
 
   leaves-from : (c p : ℕ) → LeavesOf g f c p → leavesAt g e c p ≡ true
   leaves-from c p (inl (q, o)) = leaves-off g e c p q ∙ o
-  leaves-from c p (inr (on, z)) =
+  leaves-from c p (inr (on, z, two)) =
+      let v = zero-no-data e (neighbour g c p) _ (keys (neighbour g c p) on) (range (neighbour g c p) .0) z in
+      let m = marks (neighbour g c p) (void-of g e (neighbour g c p) on v) in
       leaves-on g e c p (λ q. let y : ⊥ = omega arith in absurd y)
-      ∙ not-of-false (zero-no-data e (neighbour g c p) _ (keys (neighbour g c p) on) (range (neighbour g c p) .0) z)
+      ∙ not-false-true (isOutside g e (neighbour g c p)) (λ o. let k = m ∙ cond-false 2 1 o in let y : ⊥ = omega arith in y)
 
   out-to : (c : ℕ) → Outlet g e c → OutletOf g f c
   out-to c o =

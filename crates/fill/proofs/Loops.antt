@@ -10,6 +10,7 @@ use lib.ListN.{length, getD, set}
 use lib.IntN.{ℤ}
 use borrow.Author.Tests.{lt-ltb, le-ltb}
 use Rattle.grid.specs.Sheet.{void, at, SixteenBits, IsElevation}
+use Rattle.grid_laws.proofs.Below.{positive}
 use Rattle.grid_laws.proofs.Tests.{and-false-left}
 use Rattle.grid_laws.proofs.Lists.{at-set}
 use Rattle.grid_laws.proofs.Cells.{all-sixteen}
@@ -42,11 +43,7 @@ pub no-key : (word : ℕ) → word ≡ 0 → false ≡ (ltb 0 word && ltb word 6
 no-key word z = sym (and-false-left (ltb word 65536) (le-ltb 0 word (omega arith)))
 
 pub by-level : (word : ℕ) → (word ≡ 0 → ⊥) → ltb word 65536 ≡ (ltb 0 word && ltb word 65536)
-by-level word f = sym (ap (λ (t : Bool). t && ltb word 65536) (lt-ltb 0 word (above word f)))
-  where
-    above : (x : ℕ) → (x ≡ 0 → ⊥) → 0 < x
-    above zero f = absurd (f refl)
-    above (suc x) f = omega arith
+by-level word f = sym (ap (λ (t : Bool). t && ltb word 65536) (lt-ltb 0 word (positive word f)))
 
 -- the first i cells are reached or void
 abbrev pub ReachedTo : List ℕ → ℕ → Type 0

@@ -8,13 +8,17 @@ use lib.ListN.{getD}
 use lib.IntN.{ℤ}
 use Rattle.grid.specs.declared.Grid.{Grid}
 use Rattle.grid.specs.Below.{table}
-use Rattle.grid.specs.Sheet.{size, at}
+use Rattle.grid.specs.Sheet.{size, at, isData}
 use Rattle.grid.specs.Fill.{filled}
 use Rattle.cells.specs.Keys.{keyOf, levelOf}
 
 -- the sheet that the first n keys of a list spell
 unfoldable pub sheetIn : ℕ → List ℕ → List ℤ
 sheetIn n w = table n (λ c. levelOf (getD w c 0))
+
+-- the sheet e has the voids of the one that keys spell: their keys are 0
+abbrev pub SameVoids : Grid → List ℤ → List ℕ → Type 0
+SameVoids g e w = (c : ℕ) → c < size g → isData e c ≡ ltb 0 (getD w c 0)
 
 -- the flood's words: a cell's key, and 65,536 times its filled key; one formula for voids too, whose keys are 0
 abbrev pub Words : Grid → List ℤ → List ℕ → Type 0

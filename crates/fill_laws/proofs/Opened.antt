@@ -1,8 +1,8 @@
 -- Opening a cell moves neither voids nor outlets, so it strands no cell and frees none.
 use mathlib.Core.Path.{_≡_, sym, _∙_, ap, ap₂}
-use mathlib.Core.Bool.{Bool, true, false, not, cond, _&&_, _||_}
+use mathlib.Core.Bool.{Bool, true, false, not, cond, _&&_}
 use mathlib.Core.List.{List}
-use Prim.Native.Nat.{ℕ, zero, suc, _<_}
+use Prim.Native.Nat.{ℕ, _<_}
 use native.Mathlib.Decide.{ℕ-discrete, decLt}
 use native.Mathlib.Omega.{arith}
 use lib.Dec.{eqb}
@@ -11,29 +11,16 @@ use lib.ListN.{length, getD}
 use lib.IntN.{ℤ}
 use borrow.Author.Tests.{eq-eqb, ne-eqb}
 use Rattle.grid.specs.declared.Grid.{Grid}
-use Rattle.grid.specs.Below.{table, anyBelow, firstBelow}
-use Rattle.grid.specs.Sheet.{size, void, at, eqZ, isData, neighbour}
-use Rattle.grid.specs.Joined.{joinPass, joinPasses, joined}
+use Rattle.grid.specs.Below.{firstBelow}
+use Rattle.grid.specs.Sheet.{size, void, at, eqZ, isData}
 use Rattle.grid.specs.Outlet.{isOutlet, drained, firstStranded}
 use Rattle.grid.specs.Culvert.{opened, isLevelFor}
 use Rattle.grid.specs.Sides.{OpenedAlike}
 use Rattle.grid_laws.proofs.Tests.{T-true, and-left, cond-true, cond-false}
-use Rattle.grid_laws.proofs.Below.{at-table, length-table, table-ext, first-ext}
+use Rattle.grid_laws.proofs.Below.{at-table, length-table, first-ext}
 use Rattle.grid_laws.proofs.Cells.{off-no-data, same-data}
+use Rattle.grid_laws.proofs.Joined.{same-joined}
 use Rattle.grid_laws.proofs.Outlets.{same-outlets}
-
--- the same set with the same first cells is joined alike
-same-joined : (g : Grid) (m n a b : ℕ → Bool) → ((c : ℕ) → m c ≡ n c) → ((c : ℕ) → a c ≡ b c) → joined g m a ≡ joined g n b
-unfolding joined joinPasses joinPass
-same-joined g m n a b h k = passes (size g)
-  where
-    passes : (i : ℕ) → joinPasses g m a i ≡ joinPasses g n b i
-    passes zero = table-ext (size g) (λ c. m c && a c) (λ c. n c && b c) (λ c l. ap₂ _&&_ (h c) (k c))
-    passes (suc i) =
-        ap (λ (x : List Bool). table (size g) (joinPass g m a x)) (passes i)
-        ∙ table-ext (size g) (joinPass g m a (joinPasses g n b i)) (joinPass g n b (joinPasses g n b i))
-        (λ c l. ap (λ (t : Bool). getD (joinPasses g n b i) c false
-        || (t && anyBelow 8 (λ p. getD (joinPasses g n b i) (neighbour g c p) false))) (h c))
 
 module _ (e : List ℤ) (cell : ℕ) (level : ℤ) (data-cell : isData e cell ≡ true) (for : isLevelFor e cell level ≡ true) where
   opened-data : (c : ℕ) → isData (opened e cell level) c ≡ isData e c
@@ -62,7 +49,7 @@ module _ (e : List ℤ) (cell : ℕ) (level : ℤ) (data-cell : isData e cell �
     opened-stranded =
         ap (λ (l : List Bool). firstBelow (size g) (λ c. isData (opened e cell level) c && not (getD l c false)))
         (same-joined g (isData (opened e cell level)) (isData e) (isOutlet g (opened e cell level)) (isOutlet g e) opened-data
-        opened-outlets)
+        (λ c h. ap₂ _&&_ (opened-data c) (opened-outlets c)))
         ∙ first-ext (size g) (λ c. isData (opened e cell level) c && not (getD (drained g e) c false))
         (λ c. isData e c && not (getD (drained g e) c false))
         (λ c h. ap (λ (t : Bool). t && not (getD (drained g e) c false)) (opened-data c))

@@ -10,7 +10,8 @@ ghost use Prim.Native.Nat.{ℕ, _+_, _*_, _/_, _%_, _<_, _≤_, _^_};
 ghost use lib.ListN.{length, getD, set};
 ghost use Rattle.grid.specs.Sheet.{size};
 ghost use Rattle.key_sort.specs.Order.{Sorted};
-ghost use Rattle.flood_laws.specs.Flood.{CellOf, Between, During, Spread, Wanted, Touched, Room, VoidOrReached, Opens, Opening};
+ghost use Rattle.flood_laws.specs.Flood.{CellOf, Between, During, Spread, Wanted, Touched, Room};
+ghost use Rattle.flood_laws.specs.Flood.{ReachedAreData, OutsideOrReached, Opens, Opening};
 ghost use Rattle.flood_laws.specs.Packed.{frontOf, backOf};
 ghost use Rattle.cells.specs.Steps.{Inner, Offsets};
 
@@ -19,9 +20,9 @@ fn wanted(n: usize, v: u32, m: usize, work: &[u32], half: usize) -> bool
     requires { ⌜ n ≤ length (now work) ⌝ }
     requires { ⌜ v < 65536 ⌝ }
     requires { ⌜ m < n ⌝ }
-    ensures { λ r. ⌜ (r ≡ true → Wanted n (frontOf n (now (work .entry))) (backOf n half (now (work .entry))) v m) ⌝ }
-    ensures { λ r. ⌜ (r ≡ false → CellOf n (frontOf n (now (work .entry))) m → (0 < getD (backOf n half (now (work .entry))) (n + m) 0)
-        ⊎ (v < getD (frontOf n (now (work .entry))) m 0)) ⌝ }
+    ensures { λ r. ⌜ (r ≡ true → Wanted n (frontOf n half (now (work .entry))) (backOf n half (now (work .entry))) v m) ⌝ }
+    ensures { λ r. ⌜ (r ≡ false → CellOf n (frontOf n half (now (work .entry))) m → (0 < getD (backOf n half (now (work .entry))) (n + m) 0)
+        ⊎ (v < getD (frontOf n half (now (work .entry))) m 0)) ⌝ }
 {
     let word = work[m];
     if word == 0 {
@@ -57,9 +58,9 @@ fn touch(n: usize, half: usize, v: u32, len: usize, m: usize, work: &mut [u32]) 
     requires { ⌜ v < 65536 ⌝ }
     requires { ⌜ Room n (backOf n half (now work)) len ⌝ }
     requires { ⌜ m < n ⌝ }
-    ensures { λ r. ⌜ frontOf n (now (work .exit)) ≡ frontOf n (now (work .entry)) ⌝ }
-    ensures { λ r. ⌜ Touched n (frontOf n (now (work .entry))) (backOf n half (now (work .entry))) (backOf n half (now (work .exit))) v len
-        m r ⌝ }
+    ensures { λ r. ⌜ frontOf n half (now (work .exit)) ≡ frontOf n half (now (work .entry)) ⌝ }
+    ensures { λ r. ⌜ Touched n (frontOf n half (now (work .entry))) (backOf n half (now (work .entry))) (backOf n half (now (work .exit))) v
+        len m r ⌝ }
 {
     if !wanted(n, v, m, work, half) {
         return len;
@@ -74,9 +75,9 @@ fn touch_any(n: usize, half: usize, v: u32, len: usize, m: usize, work: &mut [u3
     requires { ⌜ half + n ≤ length (now work) ⌝ }
     requires { ⌜ v < 65536 ⌝ }
     requires { ⌜ Room n (backOf n half (now work)) len ⌝ }
-    ensures { λ r. ⌜ frontOf n (now (work .exit)) ≡ frontOf n (now (work .entry)) ⌝ }
-    ensures { λ r. ⌜ Touched n (frontOf n (now (work .entry))) (backOf n half (now (work .entry))) (backOf n half (now (work .exit))) v len
-        m r ⌝ }
+    ensures { λ r. ⌜ frontOf n half (now (work .exit)) ≡ frontOf n half (now (work .entry)) ⌝ }
+    ensures { λ r. ⌜ Touched n (frontOf n half (now (work .entry))) (backOf n half (now (work .entry))) (backOf n half (now (work .exit))) v
+        len m r ⌝ }
 {
     if m >= n {
         return len;
@@ -100,11 +101,11 @@ fn spread_inner(
     requires { ⌜ size g + size g ≤ half ⌝ }
     requires { ⌜ half + size g ≤ length (now work) ⌝ }
     requires { ⌜ v < 65536 ⌝ }
-    requires { ⌜ Spread g (frontOf (size g) (now work)) (backOf (size g) half (now work)) k v head len x 0 ⌝ }
+    requires { ⌜ Spread g (frontOf (size g) half (now work)) (backOf (size g) half (now work)) k v head len x 0 ⌝ }
     requires { ⌜ Inner g (x / g .cols) (x % g .cols) ⌝ }
     requires { ⌜ Offsets (g .cols) (now offsets) ⌝ }
-    ensures { λ r. ⌜ frontOf (size g) (now (work .exit)) ≡ frontOf (size g) (now (work .entry)) ⌝ }
-    ensures { λ r. ⌜ During g (frontOf (size g) (now (work .entry))) (backOf (size g) half (now (work .exit))) k v (head + 1) r ⌝ }
+    ensures { λ r. ⌜ frontOf (size g) half (now (work .exit)) ≡ frontOf (size g) half (now (work .entry)) ⌝ }
+    ensures { λ r. ⌜ During g (frontOf (size g) half (now (work .entry))) (backOf (size g) half (now (work .exit))) k v (head + 1) r ⌝ }
 {
     let n = g.rows * g.cols;
     let mut tail = len;
@@ -132,10 +133,10 @@ fn spread_border(
     requires { ⌜ size g + size g ≤ half ⌝ }
     requires { ⌜ half + size g ≤ length (now work) ⌝ }
     requires { ⌜ v < 65536 ⌝ }
-    requires { ⌜ Spread g (frontOf (size g) (now work)) (backOf (size g) half (now work)) k v head len x 0 ⌝ }
+    requires { ⌜ Spread g (frontOf (size g) half (now work)) (backOf (size g) half (now work)) k v head len x 0 ⌝ }
     requires { ⌜ x < size g ⌝ }
-    ensures { λ r. ⌜ frontOf (size g) (now (work .exit)) ≡ frontOf (size g) (now (work .entry)) ⌝ }
-    ensures { λ r. ⌜ During g (frontOf (size g) (now (work .entry))) (backOf (size g) half (now (work .exit))) k v (head + 1) r ⌝ }
+    ensures { λ r. ⌜ frontOf (size g) half (now (work .exit)) ≡ frontOf (size g) half (now (work .entry)) ⌝ }
+    ensures { λ r. ⌜ During g (frontOf (size g) half (now (work .entry))) (backOf (size g) half (now (work .exit))) k v (head + 1) r ⌝ }
 {
     let n = g.rows * g.cols;
     let mut tail = len;
@@ -164,10 +165,10 @@ fn spread(
     requires { ⌜ half + size g ≤ length (now work) ⌝ }
     requires { ⌜ v < 65536 ⌝ }
     requires { ⌜ head < len ⌝ }
-    requires { ⌜ During g (frontOf (size g) (now work)) (backOf (size g) half (now work)) k v head len ⌝ }
+    requires { ⌜ During g (frontOf (size g) half (now work)) (backOf (size g) half (now work)) k v head len ⌝ }
     requires { ⌜ Offsets (g .cols) (now offsets) ⌝ }
-    ensures { λ r. ⌜ frontOf (size g) (now (work .exit)) ≡ frontOf (size g) (now (work .entry)) ⌝ }
-    ensures { λ r. ⌜ During g (frontOf (size g) (now (work .entry))) (backOf (size g) half (now (work .exit))) k v (head + 1) r ⌝ }
+    ensures { λ r. ⌜ frontOf (size g) half (now (work .exit)) ≡ frontOf (size g) half (now (work .entry)) ⌝ }
+    ensures { λ r. ⌜ During g (frontOf (size g) half (now (work .entry))) (backOf (size g) half (now (work .exit))) k v (head + 1) r ⌝ }
 {
     let cols = g.cols;
     let x = work[half + head] as usize;
@@ -192,10 +193,10 @@ fn drain(
     requires { ⌜ size g + size g ≤ half ⌝ }
     requires { ⌜ half + size g ≤ length (now work) ⌝ }
     requires { ⌜ v < 65536 ⌝ }
-    requires { ⌜ During g (frontOf (size g) (now work)) (backOf (size g) half (now work)) k v start len ⌝ }
+    requires { ⌜ During g (frontOf (size g) half (now work)) (backOf (size g) half (now work)) k v start len ⌝ }
     requires { ⌜ Offsets (g .cols) (now offsets) ⌝ }
-    ensures { λ r. ⌜ frontOf (size g) (now (work .exit)) ≡ frontOf (size g) (now (work .entry)) ⌝ }
-    ensures { λ r. ⌜ During g (frontOf (size g) (now (work .entry))) (backOf (size g) half (now (work .exit))) k v r r ⌝ }
+    ensures { λ r. ⌜ frontOf (size g) half (now (work .exit)) ≡ frontOf (size g) half (now (work .entry)) ⌝ }
+    ensures { λ r. ⌜ During g (frontOf (size g) half (now (work .entry))) (backOf (size g) half (now (work .exit))) k v r r ⌝ }
 {
     let mut head = start;
     let mut tail = len;
@@ -206,16 +207,16 @@ fn drain(
     tail
 }
 
-// Whether the cell `m` is void or reached.
+// Whether the cell `m` is a void that is marked as outside, or is reached. Only the mark of a void is read.
 fn opens(n: usize, half: usize, m: usize, work: &[u32]) -> bool
-    requires { ⌜ n ≤ length (now work) ⌝ }
+    requires { ⌜ half + n + n ≤ length (now work) ⌝ }
     requires { ⌜ m < n ⌝ }
-    ensures { λ r. ⌜ (r ≡ true → VoidOrReached n (frontOf n (now (work .entry))) (backOf n half (now (work .entry))) m) ⌝ }
-    ensures { λ r. ⌜ (r ≡ false → VoidOrReached n (frontOf n (now (work .entry))) (backOf n half (now (work .entry))) m → ⊥) ⌝ }
+    ensures { λ r. ⌜ (r ≡ true → OutsideOrReached n (frontOf n half (now (work .entry))) (backOf n half (now (work .entry))) m) ⌝ }
+    ensures { λ r. ⌜ (r ≡ false → OutsideOrReached n (frontOf n half (now (work .entry))) (backOf n half (now (work .entry))) m → ⊥) ⌝ }
 {
     let word = work[m];
     if word == 0 {
-        return true;
+        return work[half + n + m] == 2;
     }
     if word < 65536 {
         return false;
@@ -223,14 +224,15 @@ fn opens(n: usize, half: usize, m: usize, work: &[u32]) -> bool
     true
 }
 
-// Whether a step at the position `p` that leads to `m` opens: off the sheet through an open side, or to a void or reached cell.
+// Whether a step at the position `p` that leads to `m` opens: off the sheet through an open side, or to a void outside or a reached cell.
 fn opens_any(g: Grid, n: usize, half: usize, p: usize, m: usize, work: &[u32]) -> bool
     requires { ⌜ n ≡ size g ⌝ }
-    requires { ⌜ size g ≤ length (now work) ⌝ }
+    requires { ⌜ half + size g + size g ≤ length (now work) ⌝ }
     requires { ⌜ p < 8 ⌝ }
     requires { ⌜ m ≤ size g ⌝ }
-    ensures { λ r. ⌜ (r ≡ true → Opens g (frontOf (size g) (now (work .entry))) (backOf (size g) half (now (work .entry))) p m) ⌝ }
-    ensures { λ r. ⌜ (r ≡ false → Opens g (frontOf (size g) (now (work .entry))) (backOf (size g) half (now (work .entry))) p m → ⊥) ⌝ }
+    ensures { λ r. ⌜ (r ≡ true → Opens g (frontOf (size g) half (now (work .entry))) (backOf (size g) half (now (work .entry))) p m) ⌝ }
+    ensures { λ r. ⌜ (r ≡ false → Opens g (frontOf (size g) half (now (work .entry))) (backOf (size g) half (now (work .entry))) p m
+        → ⊥) ⌝ }
 {
     if m >= n {
         return cells::is_open(g, p);
@@ -238,15 +240,17 @@ fn opens_any(g: Grid, n: usize, half: usize, p: usize, m: usize, work: &[u32]) -
     opens(n, half, m, work)
 }
 
-// `is_opening` for a cell within the border, from which no step leads off the sheet: one leaves where it leads to a void.
+// `is_opening` for a cell within the border, from which no step leads off the sheet: one leaves where it leads to a void outside.
 fn opening_inner(g: Grid, half: usize, c: usize, offsets: &[usize; 8], work: &[u32]) -> bool
     requires { ⌜ size g < 2 ^ 24 ⌝ }
-    requires { ⌜ size g ≤ length (now work) ⌝ }
-    requires { ⌜ CellOf (size g) (frontOf (size g) (now work)) c ⌝ }
+    requires { ⌜ half + size g + size g ≤ length (now work) ⌝ }
+    requires { ⌜ ReachedAreData (size g) (frontOf (size g) half (now work)) (backOf (size g) half (now work)) ⌝ }
+    requires { ⌜ CellOf (size g) (frontOf (size g) half (now work)) c ⌝ }
     requires { ⌜ Inner g (c / g .cols) (c % g .cols) ⌝ }
     requires { ⌜ Offsets (g .cols) (now offsets) ⌝ }
-    ensures { λ r. ⌜ (r ≡ true → Opening g (frontOf (size g) (now (work .entry))) (backOf (size g) half (now (work .entry))) c) ⌝ }
-    ensures { λ r. ⌜ (r ≡ false → Opening g (frontOf (size g) (now (work .entry))) (backOf (size g) half (now (work .entry))) c → ⊥) ⌝ }
+    ensures { λ r. ⌜ (r ≡ true → Opening g (frontOf (size g) half (now (work .entry))) (backOf (size g) half (now (work .entry))) c) ⌝ }
+    ensures { λ r. ⌜ (r ≡ false → Opening g (frontOf (size g) half (now (work .entry))) (backOf (size g) half (now (work .entry))) c
+        → ⊥) ⌝ }
 {
     let n = g.rows * g.cols;
     let mut p: usize = 0;
@@ -263,10 +267,12 @@ fn opening_inner(g: Grid, half: usize, c: usize, offsets: &[usize; 8], work: &[u
 // `is_opening` for a cell on the border, where a step off the sheet leaves only through an open side.
 fn opening_border(g: Grid, half: usize, c: usize, work: &[u32]) -> bool
     requires { ⌜ size g < 2 ^ 24 ⌝ }
-    requires { ⌜ size g ≤ length (now work) ⌝ }
-    requires { ⌜ CellOf (size g) (frontOf (size g) (now work)) c ⌝ }
-    ensures { λ r. ⌜ (r ≡ true → Opening g (frontOf (size g) (now (work .entry))) (backOf (size g) half (now (work .entry))) c) ⌝ }
-    ensures { λ r. ⌜ (r ≡ false → Opening g (frontOf (size g) (now (work .entry))) (backOf (size g) half (now (work .entry))) c → ⊥) ⌝ }
+    requires { ⌜ half + size g + size g ≤ length (now work) ⌝ }
+    requires { ⌜ ReachedAreData (size g) (frontOf (size g) half (now work)) (backOf (size g) half (now work)) ⌝ }
+    requires { ⌜ CellOf (size g) (frontOf (size g) half (now work)) c ⌝ }
+    ensures { λ r. ⌜ (r ≡ true → Opening g (frontOf (size g) half (now (work .entry))) (backOf (size g) half (now (work .entry))) c) ⌝ }
+    ensures { λ r. ⌜ (r ≡ false → Opening g (frontOf (size g) half (now (work .entry))) (backOf (size g) half (now (work .entry))) c
+        → ⊥) ⌝ }
 {
     let n = g.rows * g.cols;
     let mut p: usize = 0;
@@ -284,11 +290,13 @@ fn opening_border(g: Grid, half: usize, c: usize, work: &[u32]) -> bool
 // or leads to a reached cell.
 fn is_opening(g: Grid, half: usize, c: usize, offsets: &[usize; 8], work: &[u32]) -> bool
     requires { ⌜ size g < 2 ^ 24 ⌝ }
-    requires { ⌜ size g ≤ length (now work) ⌝ }
-    requires { ⌜ CellOf (size g) (frontOf (size g) (now work)) c ⌝ }
+    requires { ⌜ half + size g + size g ≤ length (now work) ⌝ }
+    requires { ⌜ ReachedAreData (size g) (frontOf (size g) half (now work)) (backOf (size g) half (now work)) ⌝ }
+    requires { ⌜ CellOf (size g) (frontOf (size g) half (now work)) c ⌝ }
     requires { ⌜ Offsets (g .cols) (now offsets) ⌝ }
-    ensures { λ r. ⌜ (r ≡ true → Opening g (frontOf (size g) (now (work .entry))) (backOf (size g) half (now (work .entry))) c) ⌝ }
-    ensures { λ r. ⌜ (r ≡ false → Opening g (frontOf (size g) (now (work .entry))) (backOf (size g) half (now (work .entry))) c → ⊥) ⌝ }
+    ensures { λ r. ⌜ (r ≡ true → Opening g (frontOf (size g) half (now (work .entry))) (backOf (size g) half (now (work .entry))) c) ⌝ }
+    ensures { λ r. ⌜ (r ≡ false → Opening g (frontOf (size g) half (now (work .entry))) (backOf (size g) half (now (work .entry))) c
+        → ⊥) ⌝ }
 {
     let cols = g.cols;
     if cells::is_inner(g, c / cols, c % cols) {
@@ -308,13 +316,13 @@ fn visit(
 ) -> usize
     requires { ⌜ size g < 2 ^ 24 ⌝ }
     requires { ⌜ size g + size g ≤ half ⌝ }
-    requires { ⌜ half + size g ≤ length (now work) ⌝ }
+    requires { ⌜ half + size g + size g ≤ length (now work) ⌝ }
     requires { ⌜ k < size g ⌝ }
-    requires { ⌜ Sorted (size g) (frontOf (size g) (now work)) ⌝ }
-    requires { ⌜ Between g (frontOf (size g) (now work)) (backOf (size g) half (now work)) k len ⌝ }
+    requires { ⌜ Sorted (size g) (frontOf (size g) half (now work)) ⌝ }
+    requires { ⌜ Between g (frontOf (size g) half (now work)) (backOf (size g) half (now work)) k len ⌝ }
     requires { ⌜ Offsets (g .cols) (now offsets) ⌝ }
-    ensures { λ r. ⌜ frontOf (size g) (now (work .exit)) ≡ frontOf (size g) (now (work .entry)) ⌝ }
-    ensures { λ r. ⌜ Between g (frontOf (size g) (now (work .entry))) (backOf (size g) half (now (work .exit))) (k + 1) r ⌝ }
+    ensures { λ r. ⌜ frontOf (size g) half (now (work .exit)) ≡ frontOf (size g) half (now (work .entry)) ⌝ }
+    ensures { λ r. ⌜ Between g (frontOf (size g) half (now (work .entry))) (backOf (size g) half (now (work .exit))) (k + 1) r ⌝ }
 {
     let n = g.rows * g.cols;
     let c = work[n + k] as usize;
@@ -332,16 +340,16 @@ fn visit(
     drain(g, half, k, v, len, more, offsets, work)
 }
 
-// Floods the sheet, whose cells stand in order of key in the work buffer after their keys.
+// Floods the sheet, whose cells stand in order of key in the work buffer after their keys, and the marks of its voids after the queue.
 pub fn flood(g: Grid, half: usize, work: &mut [u32])
     requires { ⌜ size g < 2 ^ 24 ⌝ }
     requires { ⌜ g .cols < 2 ^ 24 ⌝ }
     requires { ⌜ size g + size g ≤ half ⌝ }
-    requires { ⌜ half + size g ≤ length (now work) ⌝ }
-    requires { ⌜ Sorted (size g) (frontOf (size g) (now work)) ⌝ }
+    requires { ⌜ half + size g + size g ≤ length (now work) ⌝ }
+    requires { ⌜ Sorted (size g) (frontOf (size g) half (now work)) ⌝ }
     requires { ⌜ ((c : ℕ) → c < size g → getD (backOf (size g) half (now work)) (size g + c) 0 ≡ 0) ⌝ }
-    ensures { λ r. ⌜ frontOf (size g) (now (work .exit)) ≡ frontOf (size g) (now (work .entry)) ⌝ }
-    ensures { λ r. ⌜ ((len : ℕ) × Between g (frontOf (size g) (now (work .entry))) (backOf (size g) half (now (work .exit))) (size g)
+    ensures { λ r. ⌜ frontOf (size g) half (now (work .exit)) ≡ frontOf (size g) half (now (work .entry)) ⌝ }
+    ensures { λ r. ⌜ ((len : ℕ) × Between g (frontOf (size g) half (now (work .entry))) (backOf (size g) half (now (work .exit))) (size g)
         len) ⌝ }
 {
     let n = g.rows * g.cols;

@@ -11,20 +11,26 @@ use Rattle.key_sort.specs.Order.{Ahead, Sorted}
 use Rattle.flood_laws.specs.Packed.{frontOf, backOf}
 use Rattle.grid_laws.proofs.Below.{at-table, length-table}
 
-module _ (n : ℕ) (w : List ℕ) where
-  pub front-key : (c : ℕ) → c < n → getD (frontOf n w) c 0 ≡ getD w c 0 % 65536
-  unfolding frontOf
-  front-key c h = at-table (n + n) _ c 0 (omega arith) ∙ rw (lt-ltb c n h)
-
-  pub front-order : (j : ℕ) → j < n → getD (frontOf n w) (n + j) 0 ≡ getD w (n + j) 0
-  unfolding frontOf
-  front-order j h = at-table (n + n) _ (n + j) 0 (omega arith) ∙ rw (le-ltb (n + j) n (omega arith))
-
-  front-length : length (frontOf n w) ≡ n + n
-  unfolding frontOf
-  front-length = length-table (n + n) _
-
 module _ (n half : ℕ) (w : List ℕ) where
+  pub front-key : (c : ℕ) → c < n → getD (frontOf n half w) c 0 ≡ getD w c 0 % 65536
+  unfolding frontOf
+  front-key c h = at-table (n + n + n) _ c 0 (omega arith) ∙ rw (lt-ltb c n h)
+
+  pub front-order : (j : ℕ) → j < n → getD (frontOf n half w) (n + j) 0 ≡ getD w (n + j) 0
+  unfolding frontOf
+  front-order j h =
+      at-table (n + n + n) _ (n + j) 0 (omega arith) ∙ rw (le-ltb (n + j) n (omega arith), lt-ltb (n + j) (n + n) (omega arith))
+
+  pub front-mark : (c : ℕ) → c < n → getD (frontOf n half w) (n + n + c) 0 ≡ getD w (half + n + c) 0
+  unfolding frontOf
+  front-mark c h =
+      at-table (n + n + n) _ (n + n + c) 0 (omega arith)
+      ∙ rw (le-ltb (n + n + c) n (omega arith), le-ltb (n + n + c) (n + n) (omega arith)) (ap (λ (x : ℕ). getD w x 0) (omega arith))
+
+  front-length : length (frontOf n half w) ≡ n + n + n
+  unfolding frontOf
+  front-length = length-table (n + n + n) _
+
   pub back-queue : (i : ℕ) → i < n → getD (backOf n half w) i 0 ≡ getD w (half + i) 0
   unfolding backOf
   back-queue i h = at-table (n + n) _ i 0 (omega arith) ∙ rw (lt-ltb i n h)
@@ -38,14 +44,26 @@ module _ (n half : ℕ) (w : List ℕ) where
   unfolding backOf
   back-length = length-table (n + n) _
 
--- two lists of 2 n that agree in both halves
-both : (n : ℕ) (a b : List ℕ) → length a ≡ n + n → length b ≡ n + n → ((i : ℕ) → i < n → getD a i 0 ≡ getD b i 0) →
-    ((i : ℕ) → i < n → getD a (n + i) 0 ≡ getD b (n + i) 0) → a ≡ b
-both n a b la lb p q = ext-getD 0 a b (la ∙ sym lb) (λ i h. go i h (decLt i n))
+-- what holds below k, and of the n from k on, holds below k + n
+parts : (k n : ℕ) (P : ℕ → Type 0) → ((i : ℕ) → i < k → P i) → ((i : ℕ) → i < n → P (k + i)) → (i : ℕ) → i < k + n → P i
+parts k n P p q i h = go (decLt i k)
   where
-    go : (i : ℕ) → i < length a → Dec (i < n) → getD a i 0 ≡ getD b i 0
-    go i h (yes l) = p i l
-    go i h (no l) = let e : i ≡ n + (i - n) = omega arith in subst (λ (x : ℕ). getD a x 0 ≡ getD b x 0) (sym e) (q (i - n) (omega arith))
+    go : Dec (i < k) → P i
+    go (yes l) = p i l
+    go (no l) = let e : i ≡ k + (i - k) = omega arith in subst P (sym e) (q (i - k) (omega arith))
+
+module _ (n : ℕ) (a b : List ℕ) where
+  abbrev Agree : ℕ → Type 0
+  Agree i = getD a i 0 ≡ getD b i 0
+
+  -- two lists of 2 n that agree in both halves
+  both : length a ≡ n + n → length b ≡ n + n → ((i : ℕ) → i < n → Agree i) → ((i : ℕ) → i < n → Agree (n + i)) → a ≡ b
+  both la lb p q = ext-getD 0 a b (la ∙ sym lb) (λ i h. parts n n Agree p q i (omega arith))
+
+  -- two lists of 3 n that agree in all thirds
+  thirds : length a ≡ n + n + n → length b ≡ n + n + n → ((i : ℕ) → i < n → Agree i) → ((i : ℕ) → i < n → Agree (n + i)) →
+      ((i : ℕ) → i < n → Agree (n + n + i)) → a ≡ b
+  thirds la lb p q r = ext-getD 0 a b (la ∙ sym lb) (λ i h. parts (n + n) n Agree (parts n n Agree p q) r i (omega arith))
 
 module _ (n half v len m : ℕ) (w : List ℕ) (hn : n + n ≤ half) (hl : half + n ≤ length w) (hm : m < n) (hq : len < n)
     (low : getD w m 0 < 65536) where
@@ -67,12 +85,13 @@ module _ (n half v len m : ℕ) (w : List ℕ) (hn : n + n ≤ half) (hl : half 
   unfolding w'
   last = getD-set-same (set w m (getD w m 0 + v * 65536)) (half + len) m 0 (rw length-set (omega arith))
 
-  pub front-same : frontOf n (set (set w m (getD w m 0 + v * 65536)) (half + len) m) ≡ frontOf n w
+  pub front-same : frontOf n half (set (set w m (getD w m 0 + v * 65536)) (half + len) m) ≡ frontOf n half w
   unfolding w'
   front-same =
-      both n (frontOf n w') (frontOf n w) (front-length n w') (front-length n w)
-      (λ i h. front-key n w' i h ∙ key i h (ℕ-discrete i m) ∙ sym (front-key n w i h))
-      (λ i h. front-order n w' i h ∙ other (n + i) (λ e. omega arith) (λ e. omega arith) ∙ sym (front-order n w i h))
+      thirds n (frontOf n half w') (frontOf n half w) (front-length n half w') (front-length n half w)
+      (λ i h. front-key n half w' i h ∙ key i h (ℕ-discrete i m) ∙ sym (front-key n half w i h))
+      (λ i h. front-order n half w' i h ∙ other (n + i) (λ e. omega arith) (λ e. omega arith) ∙ sym (front-order n half w i h))
+      (λ i h. front-mark n half w' i h ∙ other (half + n + i) (λ e. omega arith) (λ e. omega arith) ∙ sym (front-mark n half w i h))
     where
       key : (i : ℕ) → i < n → Dec (i ≡ m) → getD w' i 0 % 65536 ≡ getD w i 0 % 65536
       key i h (yes e) = rw e (let y = word in omega arith)
@@ -113,19 +132,19 @@ module _ (n half : ℕ) (w : List ℕ) (small : (x : ℕ) → x < n → getD w x
   pub packed-none : (c : ℕ) → c < n → getD (backOf n half w) (n + c) 0 ≡ 0
   packed-none c h = back-level n half w c h ∙ (let y = small c h in omega arith)
 
-  pub packed-key : (c : ℕ) → c < n → getD (frontOf n w) c 0 ≡ getD w c 0
-  packed-key c h = front-key n w c h ∙ (let y = small c h in omega arith)
+  pub packed-key : (c : ℕ) → c < n → getD (frontOf n half w) c 0 ≡ getD w c 0
+  packed-key c h = front-key n half w c h ∙ (let y = small c h in omega arith)
 
-  pub packed-sorted : Sorted n w → Sorted n (frontOf n w)
+  pub packed-sorted : Sorted n w → Sorted n (frontOf n half w)
   packed-sorted S =
       record {
-        on = λ j l. rw (front-order n w j l) (S .on j l);
+        on = λ j l. rw (front-order n half w j l) (S .on j l);
         all = λ c l. go c (S .all c l);
         rising =
             λ i j k l. let li : i < n = omega arith in
-            rw (front-order n w i li, front-order n w j l)
+            rw (front-order n half w i li, front-order n half w j l)
             (rw (packed-key (getD w (n + i) 0) (S .on i li), packed-key (getD w (n + j) 0) (S .on j l)) (S .rising i j k l));
       }
     where
-      go : (c : ℕ) → Ahead n w 0 c → Ahead n (frontOf n w) 0 c
-      go c (j, k, l, e) = (j, k, l, front-order n w j l ∙ e)
+      go : (c : ℕ) → Ahead n w 0 c → Ahead n (frontOf n half w) 0 c
+      go c (j, k, l, e) = (j, k, l, front-order n half w j l ∙ e)

@@ -16,7 +16,7 @@ use Rattle.grid_laws.proofs.Tests.{true-false}
 use Rattle.grid_laws.proofs.Neighbours.{touch-back}
 use Rattle.key_sort.specs.Order.{Ahead, Sorted}
 use Rattle.flood_laws.specs.Flood.{CellOf, NextTo, OutletOf, FloodOf, Between, During, Spread, Wanted}
-use Rattle.flood_laws.specs.Flood.{Touched, Room, VoidOrReached, Opens, Opening}
+use Rattle.flood_laws.specs.Flood.{Touched, Room, ReachedAreData, OutsideOrReached, Opens, Opening}
 use Rattle.flood_laws.proofs.Marks.{room, no-marks, at-most}
 use Rattle.flood_laws.proofs.Reach as Reach
 
@@ -160,28 +160,25 @@ module _ (g : Grid) (f b : List ℕ) (k v head len x p : ℕ) where
 -- ---- what opens a cell
 module _ (g : Grid) (f b : List ℕ) (c : ℕ) where
   -- a step that opens makes c an outlet, or leads to a reached cell beside it
-  pub opening-of : CellOf (size g) f c → (p : ℕ) → p < 8 → Opens g f b p (neighbour g c p) → Opening g f b c
-  opening-of t p hp o = go o (decLt 0 (getD f (neighbour g c p) 0))
-    where
-      go : Opens g f b p (neighbour g c p) → Dec (0 < getD f (neighbour g c p) 0) → Opening g f b c
-      go (inl x) d = inl (t, (p, hp, x))
-      go (inr (y, r)) (no n) = inl (t, (p, hp, inr (y, omega arith)))
-      go (inr (y, r)) (yes z) = inr (neighbour g c p, (t, (y, z), (p, hp, refl)), r)
+  pub opening-of : ReachedAreData (size g) f b → CellOf (size g) f c → (p : ℕ) → p < 8 → Opens g f b p (neighbour g c p) →
+      Opening g f b c
+  opening-of d t p hp (inl x) = inl (t, (p, hp, x))
+  opening-of d t p hp (inr (y, r)) = inr (neighbour g c p, (t, (y, d (neighbour g c p) y r), (p, hp, refl)), r)
 
   pub none-opens : ((p : ℕ) → p < 8 → Opens g f b p (neighbour g c p) → ⊥) → Opening g f b c → ⊥
   none-opens n (inl (t, (p, hp, x))) = n p hp (inl x)
   none-opens n (inr (m, (t, u, (p, hp, e)), r)) =
       n p hp (inr (subst (λ (x : ℕ). (x < size g) × (0 < getD b (size g + x) 0)) (sym e) (u .0, r)))
 
--- a step that stays on the sheet opens where it leads to a void or a reached cell, and only there
+-- a step that stays on the sheet opens where it leads to a void outside or a reached cell, and only there
 module _ (g : Grid) (f b : List ℕ) (p : ℕ) {m k : ℕ} (e : m ≡ k) (h : m < size g) where
-  pub opens-on : VoidOrReached (size g) f b m → Opens g f b p k
-  opens-on (inl z) = inl (inr (rw e at h, rw e at z))
+  pub opens-on : OutsideOrReached (size g) f b m → Opens g f b p k
+  opens-on (inl (z, o)) = inl (inr (rw e at h, rw e at z, rw e at o))
   opens-on (inr r) = inr (rw e at h, rw e at r)
 
-  pub opens-not-on : (VoidOrReached (size g) f b m → ⊥) → Opens g f b p k → ⊥
+  pub opens-not-on : (OutsideOrReached (size g) f b m → ⊥) → Opens g f b p k → ⊥
   opens-not-on n (inl (inl (q, o))) = omega arith
-  opens-not-on n (inl (inr (y, z))) = n (inl (rw e z))
+  opens-not-on n (inl (inr (y, z, o))) = n (inl (rw e z, rw e o))
   opens-not-on n (inr (y, r)) = n (inr (rw e r))
 
 -- one off the sheet opens through an open side, and only there
@@ -191,10 +188,15 @@ module _ (g : Grid) (f b : List ℕ) (p m : ℕ) (h : m ≡ size g) where
 
   pub opens-not-off : isOpen g p ≡ false → Opens g f b p m → ⊥
   opens-not-off n (inl (inl (e, o))) = true-false o n
-  opens-not-off n (inl (inr (y, e))) = omega arith
+  opens-not-off n (inl (inr (y, z, o))) = omega arith
   opens-not-off n (inr (y, r)) = omega arith
 
 -- ---- from one cell of the order to the next
+pub between-data : (g : Grid) (f b : List ℕ) (k len : ℕ) → Between g f b k len → ReachedAreData (size g) f b
+between-data g f b k len B m h r =
+    let p = B .flood .placed m h r in
+    rw (p .2) at (B .flood .queued (p .0) (p .1) .0 .1)
+
 module _ (g : Grid) (f b : List ℕ) (S : Sorted (size g) f) where
   pub between-none : ((c : ℕ) → c < size g → getD b (size g + c) 0 ≡ 0) → Between g f b 0 0
   between-none e =

@@ -1,5 +1,5 @@
--- The state of a flood, over two lists: f, with the keys of the cells and then the cells in order of key, which stays; and b, with the
--- queue of the reached cells and then the level of each cell, its filled key, 0 where it is not reached.
+-- The state of a flood, over two lists: f, with the keys of the cells, the cells in order of key, and the marks of voids, which stay; and
+-- b, with the queue of the reached cells and then the level of each cell, its filled key, 0 where it is not reached.
 use mathlib.Core.Path.{_≡_}
 use mathlib.Core.Bool.{true, cond}
 use mathlib.Core.Logic.{_⊎_}
@@ -40,9 +40,11 @@ CellOf n f c = (c < n) × (0 < getD f c 0)
 abbrev pub NextTo : Grid → List ℕ → ℕ → ℕ → Type 0
 NextTo g f c m = CellOf (size g) f c × CellOf (size g) f m × Touch g c m
 
--- a step at position p that leads to m leaves: off the sheet through an open side, or to a void. The one place here that knows the rule
+-- a step at position p that leads to m leaves: off the sheet through an open side, or to a void that is marked as outside. The one place
+-- here that knows the rule
 abbrev pub LeavesTo : Grid → List ℕ → ℕ → ℕ → Type 0
-LeavesTo g f p m = ((m ≡ size g) × (isOpen g p ≡ true)) ⊎ ((m < size g) × (getD f m 0 ≡ 0))
+LeavesTo g f p m =
+    ((m ≡ size g) × (isOpen g p ≡ true)) ⊎ ((m < size g) × (getD f m 0 ≡ 0) × (getD f (size g + size g + m) 0 ≡ 2))
 
 -- the step from c at position p leaves
 abbrev pub LeavesOf : Grid → List ℕ → ℕ → ℕ → Type 0
@@ -97,9 +99,13 @@ Touched n f b b' v len m r =
 abbrev pub Room : ℕ → List ℕ → ℕ → Type 0
 Room n b len = (m : ℕ) → m < n → getD b (n + m) 0 ≡ 0 → len < n
 
--- m, a cell of the sheet, is void or reached
-abbrev pub VoidOrReached : ℕ → List ℕ → List ℕ → ℕ → Type 0
-VoidOrReached n f b m = (getD f m 0 ≡ 0) ⊎ (0 < getD b (n + m) 0)
+-- every reached cell is a data cell
+abbrev pub ReachedAreData : ℕ → List ℕ → List ℕ → Type 0
+ReachedAreData n f b = (m : ℕ) → m < n → 0 < getD b (n + m) 0 → 0 < getD f m 0
+
+-- m, a cell of the sheet, is a void that is marked as outside, or is reached
+abbrev pub OutsideOrReached : ℕ → List ℕ → List ℕ → ℕ → Type 0
+OutsideOrReached n f b m = ((getD f m 0 ≡ 0) × (getD f (n + n + m) 0 ≡ 2)) ⊎ (0 < getD b (n + m) 0)
 
 -- a step at position p that leads to m is a reason to reach the cell that it starts from: it leaves, or m is reached
 abbrev pub Opens : Grid → List ℕ → List ℕ → ℕ → ℕ → Type 0

@@ -1,7 +1,7 @@
 -- The sum over the equal neighbours one level lower, and the code of a cell.
 use mathlib.Core.Path.{_≡_, refl, sym, _∙_, ap, subst}
 use mathlib.Core.Bool.{Bool, true, false, cond, _&&_, _||_}
-use mathlib.Core.Logic.{_⊎_, inl, inr, ⊎-elim}
+use mathlib.Core.Logic.{inl, inr, ⊎-elim}
 use mathlib.Core.List.{List}
 use Prim.Native.Nat.{ℕ, suc, _+_, _-_, _≤_, _<_}
 use native.Mathlib.Omega.{arith}
@@ -23,18 +23,18 @@ use Rattle.grid_laws.proofs.Below.{at-table, sum-suc}
 use Rattle.grid_laws.proofs.Neighbours.{at-eight}
 use Rattle.cells.specs.Keys.{levelOf}
 use Rattle.cells.proofs.Keys.{Known}
-use Rattle.flow_laws.specs.Words.{wordLevel, levelIn, levelsIn, Levelled}
+use Rattle.flow_laws.specs.Words.{voidWord, wordLevel, levelIn, levelsIn, Levelled}
 use Rattle.flow_laws.proofs.Agree.{equal-on-sheet}
 use Rattle.flow_laws.proofs.Equals.{is-equal, equal-height}
 use Rattle.flow_laws.proofs.Leads.{isBelow, flat-direction, void-code, zero-code-any}
-use Rattle.flow_laws.proofs.Words.{level-one, level-more, word-cases}
-use Rattle.levels.proofs.Keyed.{height-data, key-read, agrees, data-positive}
+use Rattle.flow_laws.proofs.Words.{level-one, level-more, WordCases, word-cases}
+use Rattle.levels.proofs.Keyed.{height-data, key-read, data-known}
 use Rattle.flow.specs.Coding.{CodesTo}
 
 -- ---- two words: one is one level below the other, where it is from `low` on below it
 module _ (near low word : ℕ) (high : 256 ≤ word) (one : word ≡ 256 → low ≡ 1) (more : 256 < word → low + 1 ≡ word) where
-  pub below : low ≤ near → near < word → (suc (wordLevel near) ≡ wordLevel word) × (0 < wordLevel near)
-  below h l = go (ℕ-discrete word 256)
+  pub below : low ≤ near → near < word → (near ≡ voidWord → ⊥) → (suc (wordLevel near) ≡ wordLevel word) × (0 < wordLevel near)
+  below h l f = go (ℕ-discrete word 256)
     where
       go : Dec (word ≡ 256) → (suc (wordLevel near) ≡ wordLevel word) × (0 < wordLevel near)
       go (yes w) =
@@ -54,10 +54,7 @@ module _ (near low word : ℕ) (high : 256 ≤ word) (one : word ≡ 256 → low
       b : wordLevel word ≡ word - 254
       b = level-more word high
 
-      go : Dec (word ≡ 256)
-          → ((near ≡ 0) × (wordLevel near ≡ 0))
-          ⊎ (((0 < near) × (near < 256) × (wordLevel near ≡ 1)) ⊎ ((256 ≤ near) × (wordLevel near ≡ near - 254)))
-          → (low ≤ near) × (near < word)
+      go : Dec (word ≡ 256) → WordCases near → (low ≤ near) × (near < word)
       go d (inl (z, l)) = let x : ⊥ = omega arith in absurd x
       go (yes w) (inr (inl (z, l, v))) = let o = one w in (omega arith, omega arith)
       go (no w) (inr (inl (z, l, v))) = let c = b in let x : ⊥ = w (omega arith) in absurd x
@@ -169,17 +166,16 @@ module _ (g : Grid) (e : List ℤ) (len : length e ≡ size g) (work : List ℕ)
   own-read : getD (levelsIn g work) cell 0 ≡ wordLevel (getD work cell 0)
   own-read = at-table (size g) (levelIn (size g) work) cell 0 on ∙ ap wordLevel (getD-take (size g) work cell 0 on)
 
-  -- at level 0 it is the word, and a void has code 0
-  pub low-code : (getD work cell 0 ≡ 0 → isData e cell ≡ false) → getD work cell 0 < 256
-      → getD work cell 0 ≡ directionAt g e (levelsIn g work) cell
-  low-code v h = go (ℕ-discrete (getD work cell 0) 0)
-    where
-      go : Dec (getD work cell 0 ≡ 0) → getD work cell 0 ≡ directionAt g e (levelsIn g work) cell
-      go (yes z) = z ∙ sym (void-code g e (levelsIn g work) cell (v z))
-      go (no f) =
-          let one = own-read ∙ level-one (getD work cell 0) (omega arith) h in
-          let zero-level : isLevelZero g e cell ≡ true = L .certified .one-is cell on one in
-          sym (getD-take (size g) work cell 0 on) ∙ L .coded cell on zero-level ∙ sym (zero-code-any g e cell zero-level (levelsIn g work))
+  -- at level 0 it is the word
+  pub low-code : 0 < getD work cell 0 → getD work cell 0 < voidWord → getD work cell 0 ≡ directionAt g e (levelsIn g work) cell
+  low-code some h =
+      let one = own-read ∙ level-one (getD work cell 0) some h in
+      let zero-level : isLevelZero g e cell ≡ true = L .certified .one-is cell on one in
+      sym (getD-take (size g) work cell 0 on) ∙ L .coded cell on zero-level ∙ sym (zero-code-any g e cell zero-level (levelsIn g work))
+
+  -- "A void has code 0"
+  pub no-code : getD work cell 0 ≡ voidWord → 0 ≡ directionAt g e (levelsIn g work) cell
+  no-code q = sym (void-code g e (levelsIn g work) cell (L .voids cell on .1 (getD-take (size g) work cell 0 on ∙ q)))
 
   module _ (h : 256 ≤ getD work cell 0) where
     has-level : 1 < getD (levelsIn g work) cell 0
@@ -191,9 +187,7 @@ module _ (g : Grid) (e : List ℤ) (len : length e ≡ size g) (work : List ℕ)
     -- the key that was read is the cell's, and above 0
     pub high-key : (k : ℕ) → SFits w16 (getD e cell (pos 0)) → Known k (toZ w16 (ofZ w16 (getD e cell (pos 0)))) →
         (at e cell ≡ levelOf k) × (0 < k)
-    high-key k f K =
-        let known = key-read e cell k (omega arith) f K in
-        (agrees k k (known .0) (known .1 .1 .0) refl, data-positive e cell k (known .0) (known .1 .1 .0) high-data)
+    high-key k f K = data-known e cell k (key-read e cell k (omega arith) f K) high-data
 
     not-zero : isLevelZero g e cell ≡ false
     not-zero = ⊎-elim (λ z. absurd (clash z)) (λ z. z) (test (isLevelZero g e cell))

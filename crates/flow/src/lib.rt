@@ -1,12 +1,12 @@
 // Flow directions (document 01, "Directions"): from any sheet the code of every cell, in linear time, or the first data cell without a
-// level. First each cell of level 0, an outlet or a cell with a drop above 0, gets its code as its word in the work buffer, row by row;
-// then `levels` finds the other levels; then one scan looks for a data cell without a level; and only when there is none are codes
-// written, row by row too. Proved by the certificate of `flow_laws`: the words that `levels` leaves hold the levels of the definition, so
-// the code of a flat cell is the choice among its equal neighbours one level lower.
+// level. First each cell of level 0, an outlet or a cell with a drop above 0, gets its code as its word in the work buffer, row by row, and
+// a void a word of its own; then `levels` finds the other levels; then one scan looks for a cell without a word; and only when there is
+// none are codes written, row by row too. Proved by the certificate of `flow_laws`: the words that `levels` leaves hold the levels of the
+// definition, so the code of a flat cell is the choice among its equal neighbours one level lower.
 use cells::key_at;
 use grid::Grid;
 ghost use mathlib.Core.Path.{_≡_};
-ghost use mathlib.Core.Bool.{true, false, cond, _&&_};
+ghost use mathlib.Core.Bool.{true, false, cond};
 ghost use Prim.Native.Nat.{ℕ, suc, _+_, _*_, _/_, _%_, _<_, _≤_, _^_};
 ghost use lib.Dec.{eqb};
 ghost use lib.ListN.{length, getD};
@@ -15,47 +15,67 @@ ghost use Rattle.grid.specs.Sheet.{size, at, isData, codeAt};
 ghost use Rattle.grid.specs.Directions.{directionAt, directions, flatSum, firstUnlevelled};
 ghost use Rattle.shape_laws.specs.Shaped.{Shaped};
 ghost use Rattle.cells.specs.Keys.{levelOf};
+ghost use Rattle.cells.specs.Marks.{Marked};
 ghost use Rattle.cells.specs.Steps.{Inner, Offsets};
 ghost use Rattle.choice_table.specs.Choices.{choices as choices'};
 ghost use Rattle.slopes.specs.Steepest.{innerSum};
-ghost use Rattle.flow_laws.specs.Words.{wordLevel, levelsIn, firstWord, Seeded, Levelled};
-ghost use Rattle.flow.specs.Seeding.{WordsTo, SumsIn};
+ghost use Rattle.flow_laws.specs.Words.{wordLevel, levelsIn, firstWord, VoidsMarked, Seeded, Levelled};
+ghost use Rattle.flow.specs.Seeding.{WordsTo, SumsIn, MarksIn};
 ghost use Rattle.flow.specs.Coding.{NoneLacks, CodesTo};
 
 // The word of any cell before the search: an outlet's code, the choice among the largest drops of another data cell, which is 0 for a cell
-// of a flat, and 0 for a void.
-fn edge_word(g: Grid, elevations: &[i16], table: &[u8; 256], cell: usize) -> u32
+// of a flat, and 255 for a void, which is no code. The marks of voids stand in the work buffer from `base` on.
+fn edge_word(
+    g: Grid,
+    elevations: &[i16],
+    table: &[u8; 256],
+    cell: usize,
+    base: usize,
+    work: &[u32],
+) -> u32
     requires { ⌜ length (now elevations) ≡ size g ⌝ }
     requires { ⌜ size g < 2 ^ 24 ⌝ }
     requires { ⌜ cell < size g ⌝ }
     requires { ⌜ now table ≡ choices' ⌝ }
     requires { ⌜ Shaped g ⌝ }
+    requires { ⌜ base + size g ≤ length (now work) ⌝ }
+    requires { ⌜ Marked g (now elevations) base (now work) ⌝ }
     ensures { λ r. ⌜ r ≡ firstWord g (now (elevations .entry)) cell ⌝ }
 {
     if key_at(elevations, cell) == 0 {
-        return 0;
+        return 255;
     }
-    let code = cells::outlet_code(g, elevations, cell);
+    let code = cells::outlet_code(g, elevations, cell, base, work);
     if code != 0 {
         return code as u32;
     }
     choice_table::choose(table, slopes::edge_sum(g, elevations, cell) as usize) as u32
 }
 
-// The word of a cell within the border from its sum, which is 256 for an outlet and a void.
-fn inner_word(g: Grid, elevations: &[i16], table: &[u8; 256], cell: usize, sum: u32) -> u32
+// The word of a cell within the border from its sum, which is 256 near a void.
+fn inner_word(
+    g: Grid,
+    elevations: &[i16],
+    table: &[u8; 256],
+    cell: usize,
+    sum: u32,
+    base: usize,
+    work: &[u32],
+) -> u32
     requires { ⌜ length (now elevations) ≡ size g ⌝ }
     requires { ⌜ size g < 2 ^ 24 ⌝ }
     requires { ⌜ cell < size g ⌝ }
     requires { ⌜ now table ≡ choices' ⌝ }
     requires { ⌜ sum ≡ innerSum g (now elevations) cell ⌝ }
     requires { ⌜ Shaped g ⌝ }
+    requires { ⌜ base + size g ≤ length (now work) ⌝ }
+    requires { ⌜ Marked g (now elevations) base (now work) ⌝ }
     ensures { λ r. ⌜ r ≡ firstWord g (now (elevations .entry)) cell ⌝ }
 {
     if sum < 256 {
         return choice_table::choose(table, sum as usize) as u32;
     }
-    edge_word(g, elevations, table, cell)
+    edge_word(g, elevations, table, cell, base, work)
 }
 
 // Goes on with words for the cells from `from` to `to`, whose sums stand in their places.
@@ -63,23 +83,25 @@ fn inner_words(
     g: Grid,
     elevations: &[i16],
     table: &[u8; 256],
+    base: usize,
     from: usize,
     to: usize,
     work: &mut [u32],
 )
     requires { ⌜ length (now elevations) ≡ size g ⌝ }
     requires { ⌜ size g < 2 ^ 24 ⌝ }
-    requires { ⌜ size g ≤ length (now work) ⌝ }
+    requires { ⌜ MarksIn g (now elevations) base (now work) ⌝ }
     requires { ⌜ now table ≡ choices' ⌝ }
     requires { ⌜ (from ≤ to) × (to ≤ size g) ⌝ }
     requires { ⌜ WordsTo g (now elevations) from (now work) ⌝ }
     requires { ⌜ SumsIn g (now elevations) from to (now work) ⌝ }
     requires { ⌜ Shaped g ⌝ }
     ensures { λ r. ⌜ WordsTo g (now (elevations .entry)) to (now (work .exit)) ⌝ }
+    ensures { λ r. ⌜ MarksIn g (now (elevations .entry)) base (now (work .exit)) ⌝ }
 {
     let mut cell = from;
     while cell < to {
-        work[cell] = inner_word(g, elevations, table, cell, work[cell]);
+        work[cell] = inner_word(g, elevations, table, cell, work[cell], base, work);
         cell += 1;
     }
 }
@@ -89,22 +111,24 @@ fn edge_words(
     g: Grid,
     elevations: &[i16],
     table: &[u8; 256],
+    base: usize,
     from: usize,
     to: usize,
     work: &mut [u32],
 )
     requires { ⌜ length (now elevations) ≡ size g ⌝ }
     requires { ⌜ size g < 2 ^ 24 ⌝ }
-    requires { ⌜ size g ≤ length (now work) ⌝ }
+    requires { ⌜ MarksIn g (now elevations) base (now work) ⌝ }
     requires { ⌜ now table ≡ choices' ⌝ }
     requires { ⌜ (from ≤ to) × (to ≤ size g) ⌝ }
     requires { ⌜ WordsTo g (now elevations) from (now work) ⌝ }
     requires { ⌜ Shaped g ⌝ }
     ensures { λ r. ⌜ WordsTo g (now (elevations .entry)) to (now (work .exit)) ⌝ }
+    ensures { λ r. ⌜ MarksIn g (now (elevations .entry)) base (now (work .exit)) ⌝ }
 {
     let mut cell = from;
     while cell < to {
-        work[cell] = edge_word(g, elevations, table, cell);
+        work[cell] = edge_word(g, elevations, table, cell, base, work);
         cell += 1;
     }
 }
@@ -115,32 +139,41 @@ fn seed_row(
     offsets: &[usize; 8],
     elevations: &[i16],
     table: &[u8; 256],
+    base: usize,
     row: usize,
     work: &mut [u32],
 )
     requires { ⌜ length (now elevations) ≡ size g ⌝ }
     requires { ⌜ size g < 2 ^ 24 ⌝ }
-    requires { ⌜ size g ≤ length (now work) ⌝ }
+    requires { ⌜ MarksIn g (now elevations) base (now work) ⌝ }
     requires { ⌜ now table ≡ choices' ⌝ }
     requires { ⌜ (1 ≤ row) × (row + 2 ≤ g .rows) × (3 ≤ g .cols) ⌝ }
     requires { ⌜ WordsTo g (now elevations) (row * g .cols + 1) (now work) ⌝ }
     requires { ⌜ Offsets (g .cols) (now offsets) ⌝ }
     requires { ⌜ Shaped g ⌝ }
     ensures { λ r. ⌜ WordsTo g (now (elevations .entry)) ((row + 1) * g .cols + 1) (now (work .exit)) ⌝ }
+    ensures { λ r. ⌜ MarksIn g (now (elevations .entry)) base (now (work .exit)) ⌝ }
 {
     let cols = g.cols;
     let from = row * cols + 1;
     let to = from + (cols - 2);
     slopes::row_sums(g, offsets, elevations, from, to, work);
-    inner_words(g, elevations, table, from, to, work);
-    edge_words(g, elevations, table, to, to + 2, work);
+    inner_words(g, elevations, table, base, from, to, work);
+    edge_words(g, elevations, table, base, to, to + 2, work);
 }
 
 // The words of a sheet with cells within its border.
-fn seed_rows(g: Grid, offsets: &[usize; 8], elevations: &[i16], table: &[u8; 256], work: &mut [u32])
+fn seed_rows(
+    g: Grid,
+    offsets: &[usize; 8],
+    elevations: &[i16],
+    table: &[u8; 256],
+    base: usize,
+    work: &mut [u32],
+)
     requires { ⌜ length (now elevations) ≡ size g ⌝ }
     requires { ⌜ size g < 2 ^ 24 ⌝ }
-    requires { ⌜ size g ≤ length (now work) ⌝ }
+    requires { ⌜ MarksIn g (now elevations) base (now work) ⌝ }
     requires { ⌜ now table ≡ choices' ⌝ }
     requires { ⌜ (3 ≤ g .rows) × (3 ≤ g .cols) ⌝ }
     requires { ⌜ Offsets (g .cols) (now offsets) ⌝ }
@@ -149,62 +182,57 @@ fn seed_rows(g: Grid, offsets: &[usize; 8], elevations: &[i16], table: &[u8; 256
 {
     let rows = g.rows;
     let cols = g.cols;
-    edge_words(g, elevations, table, 0, cols + 1, work);
+    edge_words(g, elevations, table, base, 0, cols + 1, work);
     let mut row: usize = 1;
     while row + 1 < rows {
-        seed_row(g, offsets, elevations, table, row, work);
+        seed_row(g, offsets, elevations, table, base, row, work);
         row += 1;
     }
-    edge_words(g, elevations, table, row * cols + 1, elevations.len(), work);
+    edge_words(
+        g,
+        elevations,
+        table,
+        base,
+        row * cols + 1,
+        elevations.len(),
+        work,
+    );
 }
 
 // Puts the first word of every cell into the work buffer, row by row; a sheet of fewer than three rows or columns is all border.
-fn seed(g: Grid, offsets: &[usize; 8], elevations: &[i16], work: &mut [u32])
+fn seed(g: Grid, offsets: &[usize; 8], elevations: &[i16], base: usize, work: &mut [u32])
     requires { ⌜ length (now elevations) ≡ size g ⌝ }
     requires { ⌜ size g < 2 ^ 24 ⌝ }
-    requires { ⌜ size g ≤ length (now work) ⌝ }
+    requires { ⌜ MarksIn g (now elevations) base (now work) ⌝ }
     requires { ⌜ Offsets (g .cols) (now offsets) ⌝ }
     requires { ⌜ Shaped g ⌝ }
     ensures { λ r. ⌜ Seeded g (now (elevations .entry)) (now (work .exit)) ⌝ }
 {
     let table = choice_table::choices();
     if g.rows < 3 {
-        edge_words(g, elevations, &table, 0, elevations.len(), work);
+        edge_words(g, elevations, &table, base, 0, elevations.len(), work);
         return;
     }
     if g.cols < 3 {
-        edge_words(g, elevations, &table, 0, elevations.len(), work);
+        edge_words(g, elevations, &table, base, 0, elevations.len(), work);
         return;
     }
-    seed_rows(g, offsets, elevations, &table, work);
+    seed_rows(g, offsets, elevations, &table, base, work);
 }
 
-// Whether a cell holds data and has no level.
-fn lacks_level(elevations: &[i16], work: &[u32], cell: usize) -> bool
-    requires { ⌜ cell < length (now work) ⌝ }
-    ensures { λ r. ⌜ r ≡ (isData (now (elevations .entry)) cell && eqb (getD (now (work .entry)) cell 0) 0) ⌝ }
+// The first of `n` cells without a word, or `n`: a void has one, so it is the first data cell without a level.
+fn first_without(n: usize, work: &[u32]) -> usize
+    requires { ⌜ n ≤ length (now work) ⌝ }
+    ensures { λ r. ⌜ r ≡ firstBelow n (λ c. eqb (getD (now (work .entry)) c 0) 0) ⌝ }
 {
-    if work[cell] != 0 {
-        return false;
-    }
-    key_at(elevations, cell) != 0
-}
-
-// The first data cell without a level, or the number of cells.
-fn first_without(elevations: &[i16], work: &[u32]) -> usize
-    requires { ⌜ length (now elevations) ≤ length (now work) ⌝ }
-    ensures { λ r. ⌜ r ≡ firstBelow (length (now (elevations .entry)))
-        (λ c. isData (now (elevations .entry)) c && eqb (getD (now (work .entry)) c 0) 0) ⌝ }
-{
-    let cells = elevations.len();
     let mut cell: usize = 0;
-    while cell < cells {
-        if lacks_level(elevations, work, cell) {
+    while cell < n {
+        if work[cell] == 0 {
             return cell;
         }
         cell += 1;
     }
-    cells
+    n
 }
 
 // The lowest word of the level below that of `word`.
@@ -219,8 +247,8 @@ fn lowest_below(word: u32) -> u32
     word - 1
 }
 
-// Whether the cell `m` has the elevation of the key `k` and the level below that of `word`, whose lowest word is `low`. Both are read
-// before either is tested, so that the compiler can join the tests.
+// Whether the cell `m` has the elevation of the key `k` and the level below that of `word`, whose lowest word is `low`; a cell of that
+// elevation is no void. Both are read before either is tested, so that the compiler can join the tests.
 fn is_below(elevations: &[i16], work: &[u32], k: u32, low: u32, word: u32, m: usize) -> bool
     requires { ⌜ length (now elevations) ≤ length (now work) ⌝ }
     requires { ⌜ m < length (now elevations) ⌝ }
@@ -228,6 +256,7 @@ fn is_below(elevations: &[i16], work: &[u32], k: u32, low: u32, word: u32, m: us
     requires { ⌜ 256 ≤ word ⌝ }
     requires { ⌜ (word ≡ 256 → low ≡ 1) ⌝ }
     requires { ⌜ (256 < word → low + 1 ≡ word) ⌝ }
+    requires { ⌜ (isData (now elevations) m ≡ true → getD (now work) m 0 ≡ 255 → ⊥) ⌝ }
     ensures { λ r. ⌜ (r ≡ true → (at (now (elevations .entry)) m ≡ levelOf k)
         × ((suc (wordLevel (getD (now (work .entry)) m 0)) ≡ wordLevel word) × (0 < wordLevel (getD (now (work .entry)) m 0)))) ⌝ }
     ensures { λ r. ⌜ (r ≡ false → at (now (elevations .entry)) m ≡ levelOf k
@@ -251,6 +280,7 @@ fn is_below_any(elevations: &[i16], work: &[u32], k: u32, low: u32, word: u32, m
     requires { ⌜ 256 ≤ word ⌝ }
     requires { ⌜ (word ≡ 256 → low ≡ 1) ⌝ }
     requires { ⌜ (256 < word → low + 1 ≡ word) ⌝ }
+    requires { ⌜ (isData (now elevations) m ≡ true → getD (now work) m 0 ≡ 255 → ⊥) ⌝ }
     ensures { λ r. ⌜ (r ≡ true → (at (now (elevations .entry)) m ≡ levelOf k)
         × ((suc (wordLevel (getD (now (work .entry)) m 0)) ≡ wordLevel word) × (0 < wordLevel (getD (now (work .entry)) m 0)))) ⌝ }
     ensures { λ r. ⌜ (r ≡ false → at (now (elevations .entry)) m ≡ levelOf k
@@ -296,6 +326,7 @@ fn flat_sum_inner(
     requires { ⌜ 0 < k ⌝ }
     requires { ⌜ 256 ≤ word ⌝ }
     requires { ⌜ (word ≡ 256 → low ≡ 1) × (256 < word → low + 1 ≡ word) ⌝ }
+    requires { ⌜ VoidsMarked g (now elevations) (now work) ⌝ }
     requires { ⌜ Inner g (cell / g .cols) (cell % g .cols) ⌝ }
     requires { ⌜ Offsets (g .cols) (now offsets) ⌝ }
     ensures { λ r. ⌜ r ≡ flatSum g (now (elevations .entry)) (levelsIn g (now (work .entry))) cell ⌝ }
@@ -330,6 +361,7 @@ fn flat_sum_border(
     requires { ⌜ 0 < k ⌝ }
     requires { ⌜ 256 ≤ word ⌝ }
     requires { ⌜ (word ≡ 256 → low ≡ 1) × (256 < word → low + 1 ≡ word) ⌝ }
+    requires { ⌜ VoidsMarked g (now elevations) (now work) ⌝ }
     ensures { λ r. ⌜ r ≡ flatSum g (now (elevations .entry)) (levelsIn g (now (work .entry))) cell ⌝ }
     ensures { λ r. ⌜ r < 256 ⌝ }
 {
@@ -358,14 +390,17 @@ fn inner_code(
     requires { ⌜ now table ≡ choices' ⌝ }
     requires { ⌜ cell < size g ⌝ }
     requires { ⌜ Levelled g (now elevations) (now work) ⌝ }
-    requires { ⌜ (getD (now work) cell 0 ≡ 0 → isData (now elevations) cell ≡ false) ⌝ }
+    requires { ⌜ 0 < getD (now work) cell 0 ⌝ }
     requires { ⌜ Inner g (cell / g .cols) (cell % g .cols) ⌝ }
     requires { ⌜ Offsets (g .cols) (now offsets) ⌝ }
     ensures { λ r. ⌜ r ≡ directionAt g (now (elevations .entry)) (levelsIn g (now (work .entry))) cell ⌝ }
 {
     let word = work[cell];
-    if word < 256 {
+    if word < 255 {
         return word as u8;
+    }
+    if word == 255 {
+        return 0;
     }
     let k = cells::key(elevations[cell]);
     let low = lowest_below(word);
@@ -383,12 +418,15 @@ fn border_code(g: Grid, elevations: &[i16], table: &[u8; 256], work: &[u32], cel
     requires { ⌜ now table ≡ choices' ⌝ }
     requires { ⌜ cell < size g ⌝ }
     requires { ⌜ Levelled g (now elevations) (now work) ⌝ }
-    requires { ⌜ (getD (now work) cell 0 ≡ 0 → isData (now elevations) cell ≡ false) ⌝ }
+    requires { ⌜ 0 < getD (now work) cell 0 ⌝ }
     ensures { λ r. ⌜ r ≡ directionAt g (now (elevations .entry)) (levelsIn g (now (work .entry))) cell ⌝ }
 {
     let word = work[cell];
-    if word < 256 {
+    if word < 255 {
         return word as u8;
+    }
+    if word == 255 {
+        return 0;
     }
     let k = cells::key(elevations[cell]);
     let low = lowest_below(word);
@@ -416,7 +454,7 @@ fn inner_codes(
     requires { ⌜ length (now codes) ≡ size g ⌝ }
     requires { ⌜ now table ≡ choices' ⌝ }
     requires { ⌜ Levelled g (now elevations) (now work) ⌝ }
-    requires { ⌜ NoneLacks g (now elevations) (now work) ⌝ }
+    requires { ⌜ NoneLacks g (now work) ⌝ }
     requires { ⌜ (from ≤ to) × (to ≤ size g) ⌝ }
     requires { ⌜ CodesTo g (now elevations) (now work) from (now codes) ⌝ }
     requires { ⌜ ((c : ℕ) → from ≤ c → c < to → Inner g (c / g .cols) (c % g .cols)) ⌝ }
@@ -446,7 +484,7 @@ fn border_codes(
     requires { ⌜ length (now codes) ≡ size g ⌝ }
     requires { ⌜ now table ≡ choices' ⌝ }
     requires { ⌜ Levelled g (now elevations) (now work) ⌝ }
-    requires { ⌜ NoneLacks g (now elevations) (now work) ⌝ }
+    requires { ⌜ NoneLacks g (now work) ⌝ }
     requires { ⌜ (from ≤ to) × (to ≤ size g) ⌝ }
     requires { ⌜ CodesTo g (now elevations) (now work) from (now codes) ⌝ }
     ensures { λ r. ⌜ CodesTo g (now (elevations .entry)) (now (work .entry)) to (now (codes .exit)) ⌝ }
@@ -474,7 +512,7 @@ fn code_row(
     requires { ⌜ length (now codes) ≡ size g ⌝ }
     requires { ⌜ now table ≡ choices' ⌝ }
     requires { ⌜ Levelled g (now elevations) (now work) ⌝ }
-    requires { ⌜ NoneLacks g (now elevations) (now work) ⌝ }
+    requires { ⌜ NoneLacks g (now work) ⌝ }
     requires { ⌜ (1 ≤ row) × (row + 2 ≤ g .rows) × (3 ≤ g .cols) ⌝ }
     requires { ⌜ CodesTo g (now elevations) (now work) (row * g .cols + 1) (now codes) ⌝ }
     requires { ⌜ Offsets (g .cols) (now offsets) ⌝ }
@@ -502,7 +540,7 @@ fn code_rows(
     requires { ⌜ length (now codes) ≡ size g ⌝ }
     requires { ⌜ now table ≡ choices' ⌝ }
     requires { ⌜ Levelled g (now elevations) (now work) ⌝ }
-    requires { ⌜ NoneLacks g (now elevations) (now work) ⌝ }
+    requires { ⌜ NoneLacks g (now work) ⌝ }
     requires { ⌜ (3 ≤ g .rows) × (3 ≤ g .cols) ⌝ }
     requires { ⌜ Offsets (g .cols) (now offsets) ⌝ }
     ensures { λ r. ⌜ CodesTo g (now (elevations .entry)) (now (work .entry)) (size g) (now (codes .exit)) ⌝ }
@@ -533,7 +571,7 @@ fn write_codes(g: Grid, offsets: &[usize; 8], elevations: &[i16], work: &[u32], 
     requires { ⌜ size g ≤ length (now work) ⌝ }
     requires { ⌜ length (now codes) ≡ size g ⌝ }
     requires { ⌜ Levelled g (now elevations) (now work) ⌝ }
-    requires { ⌜ ((c : ℕ) → c < size g → getD (now work) c 0 ≡ 0 → isData (now elevations) c ≡ false) ⌝ }
+    requires { ⌜ NoneLacks g (now work) ⌝ }
     requires { ⌜ Offsets (g .cols) (now offsets) ⌝ }
     ensures { λ r. ⌜ now (codes .exit) ≡ table' (size g) (directionAt g (now (elevations .entry)) (levelsIn g (now (work .entry)))) ⌝ }
 {
@@ -549,7 +587,8 @@ fn write_codes(g: Grid, offsets: &[usize; 8], elevations: &[i16], work: &[u32], 
     code_rows(g, offsets, elevations, &table, work, codes);
 }
 
-// The codes of the sheet, or the first data cell without a level, and then the codes stay as they are.
+// The codes of the sheet, or the first data cell without a level, and then the codes stay as they are. The marks of voids stand in the last
+// quarter of the work buffer.
 pub fn directions_into(g: Grid, elevations: &[i16], codes: &mut [u8], work: &mut [u32]) -> usize
     requires { ⌜ size g < 2 ^ 24 ⌝ }
     requires { ⌜ length (now elevations) ≡ size g ⌝ }
@@ -557,13 +596,15 @@ pub fn directions_into(g: Grid, elevations: &[i16], codes: &mut [u8], work: &mut
     requires { ⌜ 4 * size g ≤ length (now work) ⌝ }
     requires { ⌜ g .cols < 2 ^ 24 ⌝ }
     requires { ⌜ Shaped g ⌝ }
+    requires { ⌜ Marked g (now elevations) (length (now work) / 2 + size g) (now work) ⌝ }
     ensures { λ r. ⌜ r ≡ firstUnlevelled g (now (elevations .entry)) ⌝ }
     ensures { λ r. ⌜ now (codes .exit) ≡ cond (eqb r (size g)) (directions g (now (elevations .entry))) (now (codes .entry)) ⌝ }
 {
     let offsets = cells::offsets(g.cols);
-    seed(g, &offsets, elevations, work);
+    let base = work.len() / 2 + g.rows * g.cols;
+    seed(g, &offsets, elevations, base, work);
     levels::levels(g, &offsets, elevations, work);
-    let first = first_without(elevations, work);
+    let first = first_without(elevations.len(), work);
     if first < elevations.len() {
         return first;
     }

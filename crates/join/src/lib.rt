@@ -11,7 +11,7 @@ ghost use Rattle.cells.specs.Steps.{Inner, Offsets};
 ghost use Rattle.join_laws.specs.Search.{partOf, Parts, joinedMarks, Searching, Spreading, GoesOn, Touched};
 
 // Marks the cell `m` and queues it if it is of the set and not joined.
-fn touch(
+pub fn touch(
     n: usize,
     half: usize,
     base: usize,

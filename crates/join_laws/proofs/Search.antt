@@ -74,23 +74,23 @@ unfolding isJoined
 joined-of value l l' c e = ap (λ (x : ℕ). eqb x value) e
 
 module _ (g : Grid) (value : ℕ) (big : 2 ≤ value) (l : List ℕ) where
-  of-set : (c : ℕ) → inSet value l c ≡ true → (getD l c 0 ≡ 1) ⊎ (getD l c 0 ≡ value)
+  pub of-set : (c : ℕ) → inSet value l c ≡ true → (getD l c 0 ≡ 1) ⊎ (getD l c 0 ≡ value)
   unfolding inSet
   of-set c t = eq-or value (getD l c 0) t
 
-  one-set : (c : ℕ) → getD l c 0 ≡ 1 → inSet value l c ≡ true
+  pub one-set : (c : ℕ) → getD l c 0 ≡ 1 → inSet value l c ≡ true
   unfolding inSet
   one-set c e = or-left (eqb (getD l c 0) value) (eq-eqb (getD l c 0) 1 e)
 
-  value-set : (c : ℕ) → getD l c 0 ≡ value → inSet value l c ≡ true
+  pub value-set : (c : ℕ) → getD l c 0 ≡ value → inSet value l c ≡ true
   unfolding inSet
   value-set c e = or-right (eqb (getD l c 0) 1) (eq-eqb (getD l c 0) value e)
 
-  of-joined : (c : ℕ) → isJoined value l c ≡ true → getD l c 0 ≡ value
+  pub of-joined : (c : ℕ) → isJoined value l c ≡ true → getD l c 0 ≡ value
   unfolding isJoined
   of-joined c t = eqb-true (getD l c 0) value t
 
-  value-joined : (c : ℕ) → getD l c 0 ≡ value → isJoined value l c ≡ true
+  pub value-joined : (c : ℕ) → getD l c 0 ≡ value → isJoined value l c ≡ true
   unfolding isJoined
   value-joined c e = eq-eqb (getD l c 0) value e
 

@@ -1,5 +1,5 @@
 -- "Known ground": each case is what a definition gives, and what document 01 says it must be.
-use mathlib.Core.Bool.{Bool, true, false, _&&_}
+use mathlib.Core.Bool.{Bool, true, false, cond, _&&_}
 use mathlib.Core.List.{List, [], _∷_, map}
 use Prim.Native.Nat.{ℕ}
 use lib.Dec.{eqb}
@@ -10,6 +10,7 @@ use Rattle.grid.specs.declared.Answer.{Answer}
 use Rattle.grid.specs.declared.Collected.{Collected}
 use Rattle.grid.specs.declared.Grid.{Grid}
 use Rattle.grid.specs.Sheet.{gridOf, closedGrid, shapedGrid, eqZ}
+use Rattle.grid.specs.Outlet.{isGap, isOutlet}
 use Rattle.grid.specs.Fill.{filled}
 use Rattle.grid.specs.Directions.{choice, directions}
 use Rattle.grid.specs.Routes.{route, counts, labels}
@@ -100,7 +101,7 @@ basin =
     pos 9 ∷ pos 3 ∷ pos 3 ∷ pos 3 ∷ pos 9 ∷
     pos 9 ∷ pos 9 ∷ pos 9 ∷ pos 9 ∷ pos 9 ∷ []
 
--- 5 by 5, void only in the middle
+-- 5 by 5, void only in the middle: a gap
 hole : List ℤ
 hole =
     pos 5 ∷ pos 5 ∷ pos 5 ∷ pos 5 ∷ pos 5 ∷
@@ -108,6 +109,23 @@ hole =
     pos 5 ∷ pos 5 ∷ negsuc 32767 ∷ pos 5 ∷ pos 5 ∷
     pos 5 ∷ pos 5 ∷ pos 5 ∷ pos 5 ∷ pos 5 ∷
     pos 5 ∷ pos 5 ∷ pos 5 ∷ pos 5 ∷ pos 5 ∷ []
+
+-- 5 by 5: a ring of voids round the cell in the middle
+island : List ℤ
+island =
+    pos 5 ∷ pos 5 ∷ pos 5 ∷ pos 5 ∷ pos 5 ∷
+    pos 5 ∷ negsuc 32767 ∷ negsuc 32767 ∷ negsuc 32767 ∷ pos 5 ∷
+    pos 5 ∷ negsuc 32767 ∷ pos 5 ∷ negsuc 32767 ∷ pos 5 ∷
+    pos 5 ∷ negsuc 32767 ∷ negsuc 32767 ∷ negsuc 32767 ∷ pos 5 ∷
+    pos 5 ∷ pos 5 ∷ pos 5 ∷ pos 5 ∷ pos 5 ∷ []
+
+-- 4 by 4: a void in the sheet's corner, and one that touches it at a corner
+lagoon : List ℤ
+lagoon =
+    negsuc 32767 ∷ pos 5 ∷ pos 5 ∷ pos 5 ∷
+    pos 5 ∷ negsuc 32767 ∷ pos 5 ∷ pos 5 ∷
+    pos 5 ∷ pos 5 ∷ pos 5 ∷ pos 5 ∷
+    pos 5 ∷ pos 5 ∷ pos 5 ∷ pos 5 ∷ []
 
 -- 4 by 6: a pond of two cells that touch at a corner, and one of a cell whose bank is 5 in the east
 pools : List ℤ
@@ -168,6 +186,9 @@ corners-written =
     48 ∷ 48 ∷ 48 ∷ 50 ∷ 48 ∷ 48 ∷ 48 ∷ 50 ∷ 10 ∷
     56 ∷ 48 ∷ 48 ∷ 48 ∷ 70 ∷ 70 ∷ 70 ∷ 70 ∷ 10 ∷
     48 ∷ 65 ∷ 48 ∷ 66 ∷ 55 ∷ 70 ∷ 70 ∷ 70 ∷ 10 ∷ []
+
+oneWhere : Bool → ℕ
+oneWhere t = cond t 1 0
 
 numberAndPlace : Answer → List ℕ
 numberAndPlace a = a .number ∷ a .place ∷ []
@@ -242,7 +263,7 @@ runIn work s = numberAndPlace (runCheck (gridOf 1 4) streams work s)
 -- ---- the table
 
 unfoldable pub knownGround : List Case
-unfolding printed-input printed-output voids between middle basin hole pools poolNumbers bank opened-bank cut eastward corners
+unfolding printed-input printed-output voids between middle basin hole island lagoon oneWhere pools poolNumbers bank opened-bank cut eastward corners
     corners-read corners-written numberAndPlace culvertIn writeIn listsIn codeAmid shapeIn basinCodes openedCodes eastwardCodes
     streams crewsAfter traced standing collectedIn handIn runIn
 knownGround =
@@ -269,8 +290,24 @@ knownGround =
     -- P9: the outlet's count, and the code at row 2, column 2
     ∷ elevations (filled (gridOf 5 5) basin) basin
     ∷ numbers (getD (counts (gridOf 5 5) basinCodes) 14 0 ∷ getD basinCodes 12 0 ∷ []) (9 ∷ 2 ∷ [])
-    -- P10: the code at row 1, column 1
-    ∷ numbers (getD (directions (gridOf 5 5) hole) 6 0 ∷ []) (4 ∷ [])
+    -- P10, a sheet with a gap: row 1, column 1 is no outlet, and its code; the gap's own code is 0, and no code points at it
+    ∷ numbers (oneWhere (isOutlet (gridOf 5 5) hole 6) ∷ oneWhere (isGap (gridOf 5 5) hole 12) ∷ []) (0 ∷ 1 ∷ [])
+    ∷ numbers (directions (gridOf 5 5) hole)
+    (32 ∷ 128 ∷ 128 ∷ 128 ∷ 2 ∷
+    32 ∷ 64 ∷ 128 ∷ 1 ∷ 2 ∷
+    32 ∷ 32 ∷ 0 ∷ 2 ∷ 2 ∷
+    32 ∷ 16 ∷ 8 ∷ 4 ∷ 2 ∷
+    32 ∷ 8 ∷ 8 ∷ 8 ∷ 2 ∷ [])
+    -- voids join over corners: beside the lagoon row 1, column 2 is an outlet; with west and north closed the lagoon is a gap
+    ∷ numbers (oneWhere (isOutlet (gridOf 4 4) lagoon 6) ∷ oneWhere (isGap (gridOf 4 4) lagoon 5) ∷ []) (1 ∷ 0 ∷ [])
+    ∷ numbers (oneWhere (isOutlet (closedGrid 4 4 5) lagoon 6) ∷ oneWhere (isGap (closedGrid 4 4 5) lagoon 0) ∷ []) (0 ∷ 1 ∷ [])
+    ∷ numbers (oneWhere (isOutlet (closedGrid 4 4 1) lagoon 6) ∷ oneWhere (isGap (closedGrid 4 4 1) lagoon 0) ∷ []) (1 ∷ 0 ∷ [])
+    -- an island in a gap has no way out: 18, also printed
+    ∷ numbers (numberAndPlace (drainCheck (gridOf 5 5) island 25 25 25 25 100)) (18 ∷ 12 ∷ [])
+    ∷ numbers (programText (elevationText (gridOf 5 5) island))
+    (70 ∷ 70 ∷ 49 ∷ 50 ∷ 48 ∷ 48 ∷ 48 ∷ 48 ∷ 48 ∷ 48 ∷ 48 ∷ 67 ∷ 10 ∷ [])
+    -- voids alone are accepted whatever is closed
+    ∷ numbers (numberAndPlace (fillCheck (closedGrid 2 3 15) voids 6 24)) (0 ∷ 0 ∷ [])
     -- ponds: their numbers, how many they are, and the three columns; columns too short get 14 with that number as place
     ∷ numbers (ponds (gridOf 4 6) pools) poolNumbers
     ∷ numbers (pondCount (gridOf 4 6) pools ∷ []) (2 ∷ [])
@@ -305,12 +342,14 @@ knownGround =
     ∷ numbers eastwardCodes (8 ∷ 8 ∷ 4 ∷ 2 ∷ 2 ∷ 2 ∷ 2 ∷ 2 ∷ 128 ∷ 128 ∷ 1 ∷ 2 ∷ [])
     ∷ numbers (counts eastward eastwardCodes) (0 ∷ 0 ∷ 0 ∷ 0 ∷ 2 ∷ 5 ∷ 6 ∷ 9 ∷ 0 ∷ 0 ∷ 0 ∷ 0 ∷ [])
     ∷ numbers (labels eastward eastwardCodes) (8 ∷ 8 ∷ 8 ∷ 4 ∷ 8 ∷ 8 ∷ 8 ∷ 8 ∷ 8 ∷ 8 ∷ 8 ∷ 12 ∷ [])
-    -- one cell leaves by the first open side; no corner step leads off the sheet; a void on a closed side is outside
+    -- one cell leaves by the first open side; no corner step leads off the sheet; a void on closed sides alone is a gap
     ∷ numbers (directions (closedGrid 1 1 1) (pos 7 ∷ [])) (2 ∷ [])
     ∷ numbers (directions (closedGrid 1 1 3) (pos 7 ∷ [])) (128 ∷ [])
     ∷ numbers (directions (closedGrid 1 1 7) (pos 7 ∷ [])) (8 ∷ [])
     ∷ numbers (directions (closedGrid 2 2 11) (pos 7 ∷ pos 7 ∷ pos 7 ∷ pos 7 ∷ [])) (128 ∷ 128 ∷ 1 ∷ 64 ∷ [])
-    ∷ numbers (directions (closedGrid 2 2 15) (pos 7 ∷ pos 7 ∷ negsuc 32767 ∷ pos 7 ∷ [])) (8 ∷ 16 ∷ 0 ∷ 32 ∷ [])
+    ∷ numbers (directions (closedGrid 2 2 9) (pos 7 ∷ pos 7 ∷ negsuc 32767 ∷ pos 7 ∷ [])) (128 ∷ 2 ∷ 0 ∷ 2 ∷ [])
+    ∷ numbers (directions (closedGrid 2 2 14) (pos 7 ∷ pos 7 ∷ negsuc 32767 ∷ pos 7 ∷ [])) (32 ∷ 16 ∷ 0 ∷ 32 ∷ [])
+    ∷ numbers (numberAndPlace (fillCheck (closedGrid 2 2 15) (pos 7 ∷ pos 7 ∷ negsuc 32767 ∷ pos 7 ∷ []) 4 16)) (18 ∷ 0 ∷ [])
     -- no side open and no void: 18 at the first cell, before 10 and 14 and after 15 and 16; 16 is no number of sides: 17, after 6, before 7
     ∷ numbers (numberAndPlace (fillCheck (closedGrid 3 4 15) cut 12 48)) (18 ∷ 0 ∷ [])
     ∷ numbers (numberAndPlace (directionsCheck (closedGrid 3 4 15) cut 12 48)) (18 ∷ 0 ∷ [])

@@ -1,50 +1,59 @@
 -- The look for cells of level 1, one cell after the other.
-use mathlib.Core.Path.{_≡_, refl, sym, _∙_, ap, subst}
+use mathlib.Core.Path.{_≡_, refl, sym, _∙_, ap}
 use mathlib.Core.Bool.{Bool, true, false, cond}
 use mathlib.Core.Logic.{⊎-elim}
-use mathlib.Core.List.{List, []}
+use mathlib.Core.List.{List}
 use Prim.Native.Nat.{ℕ, suc, _+_, _≤_, _<_}
 use native.Mathlib.Omega.{arith}
 use lib.ListN.{length, getD, take, set}
 use lib.Seq.{getD-take}
 use lib.IntN.{ℤ}
 use Rattle.grid.specs.declared.Grid.{Grid}
-use Rattle.grid.specs.Sheet.{size, at, isData, neighbour}
-use Rattle.grid.specs.Directions.{isEqual, isLevelZero, directionAt}
-use Rattle.grid_laws.proofs.Tests.{test, true-false, cond-true, cond-false}
-use Rattle.cells.proofs.Keys.{Known, known-level, zero-no-data}
+use Rattle.grid.specs.Sheet.{size, isData, neighbour}
+use Rattle.grid.specs.Directions.{isEqual, isLevelZero}
+use Rattle.grid_laws.proofs.Tests.{test, not-true-false, cond-true, cond-false}
 use Rattle.flow_laws.specs.Search.{Equal}
-use Rattle.flow_laws.specs.Words.{wordLevel, levelIn, queueIn, firstWord, Seeded, Searching, Joining}
+use Rattle.flow_laws.specs.Words.{voidWord, wordLevel, levelIn, queueIn, firstWord, Coded, VoidsMarked, Seeded, Searching, Joining}
 use Rattle.flow_laws.proofs.Search.{last?, looked, search-none}
-use Rattle.flow_laws.proofs.Agree.{equal-data}
 use Rattle.flow_laws.proofs.Equals.{equal-on, equal-back}
 use Rattle.flow_laws.proofs.Leads.{zero-code-range}
-use Rattle.flow_laws.proofs.Words.{level-none, level-one, level-more, level-here, word-some, word-other}
-use Rattle.flow_laws.proofs.Words.{queue-first, queue-last, marked, searching-room}
-use Rattle.levels.proofs.Keyed.{Looked, height-data}
+use Rattle.flow_laws.proofs.Words.{level-none, level-void, level-one, level-more, level-here, word-other, queue-first, queue-last}
+use Rattle.flow_laws.proofs.Words.{first-void, first-zero, first-flat, blank-data, data-level, marked, searching-room}
+use Rattle.levels.proofs.Keyed.{Looked}
 
 -- before the first cell
 module _ (g : Grid) (e : List ℤ) (half : ℕ) (work : List ℕ) (S : Seeded g e work) where
   word-at : (c : ℕ) → c < size g → getD (take (size g) work) c 0 ≡ firstWord g e c
   word-at c h = getD-take (size g) work c 0 h ∙ S c h
 
-  word-zero : (c : ℕ) → c < size g → isLevelZero g e c ≡ true → getD (take (size g) work) c 0 ≡ directionAt g e [] c
-  unfolding firstWord
-  word-zero c h z = word-at c h ∙ cond-true (directionAt g e [] c) 0 z
+  coded : Coded g e work
+  coded c h z = word-at c h ∙ first-zero g e c z
 
-  word-flat : (c : ℕ) → c < size g → isLevelZero g e c ≡ false → getD (take (size g) work) c 0 ≡ 0
-  unfolding firstWord
-  word-flat c h z = word-at c h ∙ cond-false (directionAt g e [] c) 0 z
+  void-word : (c : ℕ) → c < size g → isData e c ≡ false → getD (take (size g) work) c 0 ≡ voidWord
+  void-word c h v = word-at c h ∙ first-void g e c v
+
+  flat-word : (c : ℕ) → c < size g → isData e c ≡ true → isLevelZero g e c ≡ false → getD (take (size g) work) c 0 ≡ 0
+  flat-word c h d z = word-at c h ∙ first-flat g e c d z
+
+  voids : VoidsMarked g e work
+  voids c h = (void-word c h, λ w. not-true-false (isData e c) (λ d. ⊎-elim (coded-not w) (flat-not w d) (test (isLevelZero g e c))))
+    where
+      coded-not : getD (take (size g) work) c 0 ≡ voidWord → isLevelZero g e c ≡ true → ⊥
+      coded-not w z = let q = coded c h z in let r = zero-code-range g e c z .1 in omega arith
+
+      flat-not : getD (take (size g) work) c 0 ≡ voidWord → isData e c ≡ true → isLevelZero g e c ≡ false → ⊥
+      flat-not w d z = let q = flat-word c h d z in omega arith
 
   level-at : (c : ℕ) → c < size g → levelIn (size g) work c ≡ cond (isLevelZero g e c) 1 0
   level-at c h = ⊎-elim yes′ no′ (test (isLevelZero g e c))
     where
       yes′ : isLevelZero g e c ≡ true → levelIn (size g) work c ≡ cond (isLevelZero g e c) 1 0
-      yes′ z =
-          let q = word-zero c h z in let r = zero-code-range g e c z in level-one _ (rw q (r .0)) (rw q (r .1)) ∙ sym (cond-true 1 0 z)
+      yes′ z = let q = coded c h z in let r = zero-code-range g e c z in level-one _ (rw q (r .0)) (rw q (r .1)) ∙ sym (cond-true 1 0 z)
 
       no′ : isLevelZero g e c ≡ false → levelIn (size g) work c ≡ cond (isLevelZero g e c) 1 0
-      no′ z = level-none _ (word-flat c h z) ∙ sym (cond-false 1 0 z)
+      no′ z =
+          ⊎-elim (λ d. level-none _ (flat-word c h d z)) (λ v. level-void _ (void-word c h v)) (test (isData e c))
+          ∙ sym (cond-false 1 0 z)
 
   low : (c : ℕ) → c < size g → levelIn (size g) work c ≤ 1
   low c h = let q = level-at c h in omega (arith, one (isLevelZero g e c))
@@ -56,7 +65,7 @@ module _ (g : Grid) (e : List ℤ) (half : ℕ) (work : List ℕ) (S : Seeded g 
   pub joining-none : Joining g e half work 0 0
   joining-none =
       record {
-        searching = record { search = search-none level-at; coded = word-zero };
+        searching = record { search = search-none level-at; coded = coded; voids = voids };
         twos = λ i h. let z : ⊥ = omega arith in absurd z;
         ahead = λ c h k. low c k;
       }
@@ -71,25 +80,24 @@ module _ (g : Grid) (e : List ℤ) (len : length e ≡ size g) (half : ℕ) (wor
             record {
               search = looked (equal-back g e len) (equal-on g e len) (J .searching .search) all;
               coded = J .searching .coded;
+              voids = J .searching .voids;
             };
         twos = J .twos;
         ahead = λ c h k. J .ahead c (omega arith) k;
       }
 
-  -- the cell has a level: 0
+  -- the cell has a word: it has level 0, or it is a void, and then no equal neighbour
   pub joining-has : (getD work cell 0 ≡ 0 → ⊥) → Joining g e half work (cell + 1) tail
   joining-has f =
       passed
       (λ d b q.
       let l = J .ahead cell (omega arith) on in
       let w : 0 < getD work cell 0 = omega (arith, f) in
-      (word-some _ (rw (getD-take (size g) work cell 0 on) w), omega arith))
+      (data-level g e len work (J .searching .voids) cell (equal-back g e len d cell b .from-data) w, omega arith))
 
-  -- its key is that of a void
-  pub joining-void : (k : ℕ) → Known k (at e cell) → k ≡ 0 → Joining g e half work (cell + 1) tail
-  joining-void k K z =
-      let v = zero-no-data e cell k (K .0) (K .1 .1 .0) z in
-      passed (λ d b q. true-false (subst (λ (x : ℕ). isData e x ≡ true) (b .there) (equal-data g e d (b .position) (b .equal))) v)
+  -- it has none: it is a data cell
+  pub joining-data : getD work cell 0 ≡ 0 → isData e cell ≡ true
+  joining-data none = blank-data g e len work (J .searching .voids) cell on none
 
   -- it lies beside no equal cell of level 0
   pub joining-alone : {found : ℕ} → Looked g e work cell 8 found → 8 ≤ found → Joining g e half work (cell + 1) tail
@@ -103,7 +111,7 @@ module _ (g : Grid) (e : List ℤ) (len : length e ≡ size g) (half : ℕ) (wor
   joining-room z = searching-room g e len half work (J .searching) cell on z
 
   -- it lies beside one, at p
-  module _ (hn : size g ≤ half) (hl : half + size g ≤ length work) (none : getD work cell 0 ≡ 0) (d : isData e cell ≡ true) (p : ℕ)
+  module _ (hn : size g ≤ half) (hl : half + size g ≤ length work) (none : getD work cell 0 ≡ 0) (p : ℕ)
       (hp : p < 8) (same : isEqual g e cell p ≡ true) (one : levelIn (size g) work (neighbour g cell p) ≡ 1) where
     -- the work buffer after it
     abbrev after : List ℕ
@@ -115,7 +123,7 @@ module _ (g : Grid) (e : List ℤ) (len : length e ≡ size g) (half : ℕ) (wor
     searching′ : Searching g e half after cell 0 (tail + 1)
     searching′ =
         marked g e len half work (J .searching) hn hl cell (neighbour g cell p) 256 on none
-        (record { from-data = d; position = p; eight = hp; there = refl; equal = same })
+        (record { from-data = joining-data none; position = p; eight = hp; there = refl; equal = same })
         (omega arith) (two ∙ ap suc (sym one))
         (λ j h. let q = J .twos j h in omega arith)
         (λ i h k. let q = J .twos i k in omega arith)
@@ -150,14 +158,13 @@ module _ (g : Grid) (e : List ℤ) (len : length e ≡ size g) (half : ℕ) (wor
                     looked (equal-back g e len) (equal-on g e len) (searching′ .search)
                     (λ x b q. let h = here in (omega arith, omega arith));
                 coded = searching′ .coded;
+                voids = searching′ .voids;
               };
           twos = twos′;
           ahead = λ c h k. let q = other c (λ r. omega arith) in let a = J .ahead c (omega arith) k in omega arith;
         }
 
-  pub joining-next : (k : ℕ) → Known k (at e cell) → 0 < k → {found r : ℕ} {work′ : List ℕ} → Looked g e work cell 8 found → found < 8
+  pub joining-next : {found r : ℕ} {work′ : List ℕ} → Looked g e work cell 8 found → found < 8
       → size g ≤ half → half + size g ≤ length work → getD work cell 0 ≡ 0
       → r ≡ tail + 1 → work′ ≡ set (set work cell 256) (half + tail) cell → Joining g e half work′ (cell + 1) r
-  joining-next k K some {found} L h hn hl none q s =
-      let d = height-data e cell k (sym (known-level k (at e cell) K)) some in
-      rw (q, s) (joining-marked hn hl none d found h (L .0 h .0) (L .0 h .1))
+  joining-next {found} L h hn hl none q s = rw (q, s) (joining-marked hn hl none found h (L .0 h .0) (L .0 h .1))

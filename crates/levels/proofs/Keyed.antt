@@ -21,7 +21,7 @@ use Rattle.grid_laws.proofs.Tests.{test, true-false, not-of-false}
 use Rattle.grid_laws.proofs.Order.{eqZ-eq}
 use Rattle.grid_laws.proofs.Cells.{off-no-data, on-sheet}
 use Rattle.cells.specs.Keys.{keyOf, levelOf}
-use Rattle.cells.proofs.Keys.{Known, known-read, level-key, key-level, key-void, zero-no-data}
+use Rattle.cells.proofs.Keys.{Known, known-read, known-level, level-key, key-level, key-void, zero-no-data}
 use Rattle.flow_laws.specs.Words.{levelIn}
 use Rattle.flow_laws.proofs.Equals.{is-equal, equal-height}
 use Rattle.flow_laws.proofs.Agree.{equal-on-sheet}
@@ -51,12 +51,16 @@ height-data e c k h p = ⊎-elim (λ t. absurd (zero t)) not-of-false (test (eqZ
 pub off-height : (e : List ℤ) (c k : ℕ) → length e ≤ c → 0 < k → at e c ≡ levelOf k → ⊥
 off-height e c k off p h = true-false (height-data e c k h p) (off-no-data e c off)
 
-pub data-positive : (e : List ℤ) (c r : ℕ) → r ≡ keyOf (at e c) → void ≤ℤ at e c → isData e c ≡ true → 0 < r
+data-positive : (e : List ℤ) (c r : ℕ) → r ≡ keyOf (at e c) → void ≤ℤ at e c → isData e c ≡ true → 0 < r
 data-positive e c r q v d = go (decLt 0 r)
   where
     go : Dec (0 < r) → 0 < r
     go (yes h) = h
     go (no f) = true-false d (zero-no-data e c r q v (omega arith))
+
+-- the key of a data cell is that of its elevation, and above 0
+pub data-known : (e : List ℤ) (c k : ℕ) → Known k (at e c) → isData e c ≡ true → (at e c ≡ levelOf k) × (0 < k)
+data-known e c k K d = (sym (known-level k (at e c) K), data-positive e c k (K .0) (K .1 .1 .0) d)
 
 -- ---- an equal neighbour of level 0
 -- of the positions before p that have one, `found` is one, and there is none where it is 8
@@ -70,7 +74,7 @@ looked-none g e work cell = ((λ h. let z : ⊥ = omega arith in absurd z), λ h
 
 module _ (g : Grid) (e : List ℤ) (len : length e ≡ size g) (work : List ℕ) (cell k : ℕ) (own : at e cell ≡ levelOf k) (some : 0 < k)
     (p m : ℕ) (there : m ≡ neighbour g cell p) where
-  zero-found : (at e m ≡ levelOf k) × ((0 < getD work m 0) × (getD work m 0 < 256))
+  zero-found : (at e m ≡ levelOf k) × ((0 < getD work m 0) × (getD work m 0 < 255))
       → (isEqual g e cell p ≡ true) × (levelIn (size g) work (neighbour g cell p) ≡ 1)
   zero-found (h, (a, b)) =
       let d : isData e m ≡ true = height-data e m k h some in
@@ -80,7 +84,7 @@ module _ (g : Grid) (e : List ℤ) (len : length e ≡ size g) (work : List ℕ)
       let same = subst (λ (x : ℕ). at e x ≡ at e cell) there (h ∙ sym own) in
       (is-equal g e cell p d′ same, subst (λ (x : ℕ). levelIn (size g) work x ≡ 1) there l)
 
-  zero-missing : (at e m ≡ levelOf k → 0 < getD work m 0 → 256 ≤ getD work m 0) → isEqual g e cell p ≡ true
+  zero-missing : (at e m ≡ levelOf k → 0 < getD work m 0 → 255 ≤ getD work m 0) → isEqual g e cell p ≡ true
       → levelIn (size g) work (neighbour g cell p) ≡ 1 → ⊥
   zero-missing f t l =
       let on = equal-on-sheet g e len cell p t in
@@ -94,8 +98,8 @@ module _ (g : Grid) (e : List ℤ) (len : length e ≡ size g) (work : List ℕ)
 
   -- one position more: r says whether the neighbour there is one
   pub looked-more : (found next : ℕ) (r : Bool) → p < 8 → Looked g e work cell p found
-      → (r ≡ true → (at e m ≡ levelOf k) × ((0 < getD work m 0) × (getD work m 0 < 256)))
-      → (r ≡ false → at e m ≡ levelOf k → 0 < getD work m 0 → 256 ≤ getD work m 0)
+      → (r ≡ true → (at e m ≡ levelOf k) × ((0 < getD work m 0) × (getD work m 0 < 255)))
+      → (r ≡ false → at e m ≡ levelOf k → 0 < getD work m 0 → 255 ≤ getD work m 0)
       → next ≡ cond r p found → Looked g e work cell (p + 1) next
   looked-more found next true hp L t f q = rw q ((λ h. zero-found (t refl)), λ h. let z : ⊥ = omega arith in absurd z)
   looked-more found next false hp L t f q =

@@ -1,6 +1,6 @@
 -- The look at the eight neighbours of the queue's first.
 use mathlib.Core.Path.{_≡_, refl, sym, _∙_, ap, subst}
-use mathlib.Core.Bool.{true, false, not}
+use mathlib.Core.Bool.{true, false}
 use mathlib.Core.Logic.{inl, inr, ⊎-elim}
 use mathlib.Core.List.{List}
 use Prim.Native.Nat.{ℕ, suc, _+_, _/_, _%_, _≤_, _<_}
@@ -9,25 +9,19 @@ use lib.ListN.{length, getD, take, set}
 use lib.Seq.{getD-take}
 use lib.IntN.{ℤ}
 use Rattle.grid.specs.declared.Grid.{Grid}
-use Rattle.grid.specs.Sheet.{size, void, at, isData, eqZ, neighbour}
+use Rattle.grid.specs.Sheet.{size, at, isData, neighbour}
 use Rattle.grid.specs.Directions.{isEqual, isLevelZero}
-use Rattle.grid_laws.proofs.Cells.{on-sheet}
 use Rattle.cells.specs.Steps.{Inner}
 use Rattle.flow_laws.specs.Search.{Equal}
 use Rattle.flow_laws.specs.Words.{wordLevel, levelIn, Searching}
 use Rattle.flow_laws.proofs.Search.{last?, popped}
 use Rattle.flow_laws.proofs.Equals.{is-equal, equal-on, equal-back}
-use Rattle.flow_laws.proofs.Agree.{equal-on-sheet}
-use Rattle.flow_laws.proofs.Words.{level-none, level-up, level-here, word-more, word-some, word-other}
+use Rattle.flow_laws.proofs.Agree.{equal-data, equal-on-sheet}
+use Rattle.flow_laws.proofs.Words.{level-none, level-up, level-here, word-more, word-other, blank-data, data-level}
 use Rattle.flow_laws.proofs.Words.{queue-first, marked, searching-room, searching-most, searching-small}
 use Rattle.levels.specs.Touched.{TouchedAny}
 use Rattle.levels.specs.Spreading.{Spreading}
 use Rattle.levels.proofs.Within.{other-flat, flat-within, flat-alike}
-
--- cells of one elevation are data or void together
-pub alike-data : (e : List ℤ) (c d : ℕ) → at e d ≡ at e c → isData e c ≡ true → isData e d ≡ true
-unfolding isData
-alike-data e c d q t = ap (λ (z : ℤ). not (eqZ z void)) q ∙ t
 
 -- what the reading of the queue's first, and of its word, needs and gives
 pub record Reading (g : Grid) (e : List ℤ) (half : ℕ) (work : List ℕ) (head tail first : ℕ) : Type 0 where
@@ -87,21 +81,26 @@ module _ (g : Grid) (e : List ℤ) (len : length e ≡ size g) (half : ℕ) (wor
         }
       where
         here : isEqual g e x p ≡ true → 0 < levelIn (size g) work (neighbour g x p)
-        here t =
-            let on = equal-on-sheet g e len x p t in
-            word-some _ (rw (sym (getD-take (size g) work (neighbour g x p) 0 on)) at (f t))
+        here t = data-level g e len work (P .searching .voids) (neighbour g x p) (equal-data g e x p t) (f t)
 
-    module _ (hn : size g ≤ half) (hl : half + size g ≤ length work) (hp : p < 8) (same : at e (neighbour g x p) ≡ at e x)
+    module _ (hn : size g ≤ half) (hl : half + size g ≤ length work) (hp : p < 8) (m-on : neighbour g x p < size g)
         (none : getD work (neighbour g x p) 0 ≡ 0) where
       -- the work buffer after it
       abbrev after : List ℕ
       after = set (set work (neighbour g x p) word) (half + tail) (neighbour g x p)
 
       m-data : isData e (neighbour g x p) ≡ true
-      m-data = alike-data e x (neighbour g x p) same x-data
+      m-data = blank-data g e len work (P .searching .voids) (neighbour g x p) m-on none
 
-      m-on : neighbour g x p < size g
-      m-on = on-sheet g e len (neighbour g x p) m-data
+      no-level : levelIn (size g) work (neighbour g x p) ≡ 0
+      no-level = level-none _ (getD-take (size g) work (neighbour g x p) 0 m-on ∙ none)
+
+      m-flat : isLevelZero g e (neighbour g x p) ≡ false
+      m-flat = other-flat g e (neighbour g x p) m-on half work (P .searching) (λ one. let z = no-level in omega arith)
+
+      -- a neighbour without a level is equal
+      same : at e (neighbour g x p) ≡ at e x
+      same = flat-alike g e x p x-on hp m-on x-data m-data x-flat m-flat
 
       m-room : tail < size g
       m-room = searching-room g e len half work (P .searching) (neighbour g x p) m-on none
@@ -118,9 +117,6 @@ module _ (g : Grid) (e : List ℤ) (len : length e ≡ size g) (half : ℕ) (wor
 
       other : (y : ℕ) → (y ≡ neighbour g x p → ⊥) → getD (take (size g) after) y 0 ≡ getD (take (size g) work) y 0
       other y d = word-other (size g) half tail (neighbour g x p) word work hn hl m-on m-room y d
-
-      no-level : levelIn (size g) work (neighbour g x p) ≡ 0
-      no-level = level-none _ (getD-take (size g) work (neighbour g x p) 0 m-on ∙ none)
 
       different : (y : ℕ) → 0 < levelIn (size g) work y → y ≡ neighbour g x p → ⊥
       different y h q = let b = no-level in let r = ap (levelIn (size g) work) q in omega arith
@@ -147,20 +143,11 @@ module _ (g : Grid) (e : List ℤ) (len : length e ≡ size g) (half : ℕ) (wor
               let r = up in
               omega arith
 
-    -- a neighbour without a level is equal
-    unmarked-alike : p < 8 → neighbour g x p < size g → getD work (neighbour g x p) 0 ≡ 0 → at e (neighbour g x p) ≡ at e x
-    unmarked-alike hp on none = flat-alike g e x p x-on hp on x-data x-flat m-flat
-      where
-        m-flat : isLevelZero g e (neighbour g x p) ≡ false
-        m-flat =
-            let z = level-none _ (getD-take (size g) work (neighbour g x p) 0 on ∙ none) in
-            other-flat g e (neighbour g x p) on half work (P .searching) (λ one. omega arith)
-
     pub spreading-more : {work′ : List ℕ} {m r : ℕ} → size g ≤ half → half + size g ≤ length work → p < 8
         → m ≡ neighbour g x p → TouchedAny (size g) half work work′ word tail m r → Spreading g e half work′ head r x word (p + 1)
     spreading-more {work′} {m} {r} hn hl hp q (inl (on, inl (a, b, f))) = rw (a, b) (spreading-passed (λ t. rw q at f))
     spreading-more {work′} {m} {r} hn hl hp q (inl (on, inr (a, b, z))) =
-        rw (a, b, q) (spreading-marked hn hl hp (unmarked-alike hp (rw q at on) (rw q at z)) (rw q at z))
+        rw (a, b, q) (spreading-marked hn hl hp (rw q at on) (rw q at z))
     spreading-more {work′} {m} {r} hn hl hp q (inr (off, a, b)) =
         -- no equal neighbour lies off the sheet
         rw (a, b) (spreading-passed (λ t. let on = equal-on-sheet g e len x p t in let z : ⊥ = omega arith in absurd z))
@@ -172,6 +159,7 @@ module _ (g : Grid) (e : List ℤ) (len : length e ≡ size g) (half : ℕ) (wor
               popped (equal-back g e len) (equal-on g e len) (P .searching .search) (P .more)
               (λ m b. all m (rw (P .first) at b));
           coded = P .searching .coded;
+          voids = P .searching .voids;
         }
       where
         all : (m : ℕ) → Equal g e x m → 0 < levelIn (size g) work m

@@ -1,11 +1,10 @@
--- A data cell that is not at level 0 is no outlet: where every side is open it lies within the border, and each of its neighbours on the
--- sheet holds data. Two such neighbours are equal: the higher would have a drop.
+-- A data cell that is not at level 0 is no outlet: where every side is open it lies within the border. Two such neighbours are equal: the
+-- higher would have a drop.
 use mathlib.Core.Path.{_≡_, sym, subst}
 use mathlib.Core.Bool.{true, false, _||_}
 use mathlib.Core.Logic.{⊎-elim}
 use mathlib.Core.List.{List}
 use Prim.Native.Nat.{ℕ, _/_, _%_, _<_}
-use native.Mathlib.Omega.{arith}
 use lib.IntN.{ℤ}
 use lib.Signed.{_≤ℤ_}
 use Rattle.grid.specs.declared.Grid.{Grid}
@@ -14,7 +13,6 @@ use Rattle.grid.specs.Outlet.{isOutlet}
 use Rattle.grid.specs.Directions.{isLevelZero, hasDescent}
 use Rattle.grid_laws.proofs.Tests.{test, true-false, and-rest-false, or-none-left, or-none-right}
 use Rattle.grid_laws.proofs.Order.{≤ℤ-antisym, ≤ℤ-or-<}
-use Rattle.grid_laws.proofs.Outlets.{inner-data}
 use Rattle.grid_laws.proofs.Neighbours.{opposite, opposite-small, step-back}
 use Rattle.cells.specs.Steps.{Inner}
 use Rattle.cells.proofs.Within.{outlet-free}
@@ -36,10 +34,6 @@ module _ (g : Grid) (e : List ℤ) where
       → Inner g (c / g .cols) (c % g .cols)
   flat-within c on d z sides = outlet-free g c on sides e d (flat-no-outlet c d z)
 
-  pub within-data : (c p : ℕ) → isData e c ≡ true → p < 8 → isLevelZero g e c ≡ false → neighbour g c p < size g
-      → isData e (neighbour g c p) ≡ true
-  within-data c p d h z there = inner-data g e c p d (flat-no-outlet c d z) h (λ q. let y : ⊥ = omega arith in absurd y)
-
   -- no neighbour of such a cell is lower
   not-lower : (c p : ℕ) → isData e c ≡ true → isLevelZero g e c ≡ false → p < 8 → isData e (neighbour g c p) ≡ true
       → at e c ≤ℤ at e (neighbour g c p)
@@ -49,13 +43,10 @@ module _ (g : Grid) (e : List ℤ) where
       ⊎-elim (λ l. l) (λ l. true-false (descends g e c p h n l) (or-none-right (isOutlet g e c) (hasDescent g e c) rest))
       (≤ℤ-or-< (at e c) (at e (neighbour g c p)))
 
-  pub flat-alike : (c p : ℕ) → c < size g → p < 8 → neighbour g c p < size g → isData e c ≡ true → isLevelZero g e c ≡ false
-      → isLevelZero g e (neighbour g c p) ≡ false → at e (neighbour g c p) ≡ at e c
-  flat-alike c p on h there d z y = ≤ℤ-antisym up (not-lower c p d z h n)
+  pub flat-alike : (c p : ℕ) → c < size g → p < 8 → neighbour g c p < size g → isData e c ≡ true → isData e (neighbour g c p) ≡ true
+      → isLevelZero g e c ≡ false → isLevelZero g e (neighbour g c p) ≡ false → at e (neighbour g c p) ≡ at e c
+  flat-alike c p on h there d n z y = ≤ℤ-antisym up (not-lower c p d z h n)
     where
-      n : isData e (neighbour g c p) ≡ true
-      n = within-data c p d h z there
-
       back : neighbour g (neighbour g c p) (opposite p) ≡ c
       back = step-back g c p h on there
 

@@ -1,10 +1,11 @@
 // Levels (document 01, "Directions"): how far each cell of a flat is from a cell of level 0, in steps to equal neighbours. Given the words
 // of the cells of level 0 it finds all others in linear time, breadth first: one look at each cell for level 1, then the queue, whose
-// cells stand by rising level, so that a cell is marked by the lowest of its equal neighbours. The queue lies in the second half of the
-// work buffer (`queue`). Within the border neighbours lie at fixed offsets; on it steps off the sheet find nothing. To ask at each cell
-// which it is makes slower loops. So the first look takes cells within the border and on it in runs of their own, and the queue's loop is
-// chosen once for a sheet: with every side open no flat cell lies on the border (proofs/Within `flat-within`), and nothing is asked; only
-// with closed sides is each queued cell. Proved by the certificate of `flow_laws`: each loop keeps the state `Searching`.
+// cells stand by rising level, so that a cell is marked by the lowest of its equal neighbours. A void has a word of its own, so what has
+// none is a data cell. The queue lies in the second half of the work buffer (`queue`). Within the border neighbours lie at fixed offsets;
+// on it steps off the sheet find nothing. To ask at each cell which it is makes slower loops. So the first look takes cells within the
+// border and on it in runs of their own, and the queue's loop is chosen once for a sheet: with every side open no flat cell lies on the
+// border (proofs/Within `flat-within`), and nothing is asked; only with closed sides is each queued cell. Proved by the certificate of
+// `flow_laws`: each loop keeps the state `Searching`.
 use cells::beside;
 use cells::key;
 use grid::Grid;
@@ -47,8 +48,8 @@ fn touch_any(n: usize, half: usize, word: u32, tail: usize, m: usize, work: &mut
 }
 
 // Gives the next level, as `word`, to the equal neighbours of `cell`, the queue's at `head`, that have none; it lies within the border. A
-// cell without a drop has no lower neighbour, so two such neighbours are equal: no elevation is read, and the elevations stand here for the
-// contract.
+// data cell without a drop has no lower neighbour, so two such neighbours are equal, and a void has a word: no elevation is read, and the
+// elevations stand here for the contract.
 fn spread_inner(
     g: Grid,
     offsets: &[usize; 8],
@@ -254,9 +255,9 @@ fn is_zero_at(elevations: &[i16], k: u32, m: usize, work: &[u32]) -> bool
     requires { ⌜ m < length (now elevations) ⌝ }
     requires { ⌜ 0 < k ⌝ }
     ensures { λ r. ⌜ (r ≡ true → (at (now (elevations .entry)) m ≡ levelOf k)
-        × ((0 < getD (now (work .entry)) m 0) × (getD (now (work .entry)) m 0 < 256))) ⌝ }
+        × ((0 < getD (now (work .entry)) m 0) × (getD (now (work .entry)) m 0 < 255))) ⌝ }
     ensures { λ r. ⌜ (r ≡ false → at (now (elevations .entry)) m ≡ levelOf k → 0 < getD (now (work .entry)) m 0
-        → 256 ≤ getD (now (work .entry)) m 0) ⌝ }
+        → 255 ≤ getD (now (work .entry)) m 0) ⌝ }
 {
     let own = key(elevations[m]);
     let word = work[m];
@@ -266,7 +267,7 @@ fn is_zero_at(elevations: &[i16], k: u32, m: usize, work: &[u32]) -> bool
     if word == 0 {
         return false;
     }
-    if word >= 256 {
+    if word >= 255 {
         return false;
     }
     true
@@ -277,9 +278,9 @@ fn is_zero_any(elevations: &[i16], k: u32, m: usize, work: &[u32]) -> bool
     requires { ⌜ length (now elevations) ≤ length (now work) ⌝ }
     requires { ⌜ 0 < k ⌝ }
     ensures { λ r. ⌜ (r ≡ true → (at (now (elevations .entry)) m ≡ levelOf k)
-        × ((0 < getD (now (work .entry)) m 0) × (getD (now (work .entry)) m 0 < 256))) ⌝ }
+        × ((0 < getD (now (work .entry)) m 0) × (getD (now (work .entry)) m 0 < 255))) ⌝ }
     ensures { λ r. ⌜ (r ≡ false → at (now (elevations .entry)) m ≡ levelOf k → 0 < getD (now (work .entry)) m 0
-        → 256 ≤ getD (now (work .entry)) m 0) ⌝ }
+        → 255 ≤ getD (now (work .entry)) m 0) ⌝ }
 {
     if m >= elevations.len() {
         return false;
@@ -365,9 +366,6 @@ fn join_inner(
         return tail;
     }
     let k = key(elevations[cell]);
-    if k == 0 {
-        return tail;
-    }
     if zero_inner(g, offsets, elevations, cell, k, work) >= 8 {
         return tail;
     }
@@ -395,9 +393,6 @@ fn join_border(
         return tail;
     }
     let k = key(elevations[cell]);
-    if k == 0 {
-        return tail;
-    }
     if zero_border(g, elevations, cell, k, work) >= 8 {
         return tail;
     }

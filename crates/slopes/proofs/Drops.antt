@@ -17,19 +17,16 @@ use borrow.Author.Tests.{ltb-true, lt-ltb, le-ltb, eq-eqb, ne-eqb, eqb-false}
 use Rattle.grid.specs.declared.Grid.{Grid}
 use Rattle.grid.specs.Below.{table, anyBelow}
 use Rattle.grid.specs.Sheet.{size, void, at, isData, neighbour, cellAt, codeAt, IsElevation}
-use Rattle.grid.specs.Outlet.{leavesAt, isOutlet}
 use Rattle.grid.specs.Directions.{dropTo, squaredDistance, beats, beaten, isSteepest, steepestSum}
 use Rattle.grid.specs.Shapes.{reshaped}
 use Rattle.grid_laws.proofs.Tests.{test, and-false-left, cond-true, cond-false, or-none-right}
 use Rattle.grid_laws.proofs.Below.{any-ext, no-of-any, sum-ext, is-table, at-table}
 use Rattle.shape_laws.proofs.Squares.{square-sum}
-use Rattle.shape_laws.proofs.Shapes.{same-outlet}
 use Rattle.cells.specs.Keys.{keyOf}
 use Rattle.cells.specs.Around.{KnownTo}
-use Rattle.cells.proofs.Keys.{Known, data-key, zero-key, zero-no-data, key-falls, key-drop, key-difference}
-use Rattle.cells.proofs.Codes.{leaves-key}
+use Rattle.cells.proofs.Keys.{Known, data-by-key, no-data-key, zero-no-data, key-falls, key-drop, key-difference}
 use Rattle.slopes.specs.Steepest.{keysOf, keyOr, edgeKeys, distanceOf, squareAt, unbeaten, steepestIn, anyVoid, markedIn}
-use Rattle.slopes.specs.Steepest.{innerSum}
+use Rattle.slopes.specs.Steepest.{nearVoid, innerSum}
 
 -- the definition of the larger weighted drop, for drops that are not negative, is a comparison of products, as the functions make it
 pub beats-products : (g : Grid) (a b q p : ℕ) →
@@ -118,11 +115,7 @@ module _ (g : Grid) (e : List ℤ) (c : ℕ) (known : KnownTo g e c 8) where
 
     data-here : (q : ℕ) → q < 8 → (key q ≡ 0 → ⊥) → (isData e (neighbour g c q) ≡ true) × (getD l q 0 ≡ key q)
     data-here q h f =
-        (data-key e (neighbour g c q) (known q h .0) ∙ lt-ltb 0 (key q) (above (key q) f), around q h ∙ key-or-data own (key q) f)
-      where
-        above : (x : ℕ) → (x ≡ 0 → ⊥) → 0 < x
-        above zero f = absurd (f refl)
-        above (suc x) f = omega arith
+        (data-by-key e (neighbour g c q) (key q) refl f, around q h ∙ key-or-data own (key q) f)
 
     fall-is : (q : ℕ) → q < 8 → (isData e (neighbour g c q) && ltZ (pos 0) (dropTo g e c q)) ≡ ltb (getD l q 0) own
     unfolding dropTo
@@ -209,22 +202,14 @@ module _ (g : Grid) (e : List ℤ) (c : ℕ) (known : KnownTo g e c 8) where
   unfolding keysOf
   around q h = at-table 8 key q 0 h
 
-  -- ---- within the border a void is near exactly where the cell is void or an outlet
-  module _ (on : (q : ℕ) → q < 8 → neighbour g c q < size g) (hc : void ≤ℤ at e c) where
-    near-leaves : (q : ℕ) → q < 8 → eqb (getD l q 0) 0 ≡ leavesAt g e c q
-    near-leaves q h =
-        leaves-key g e c q (getD l q 0) (λ y. let k = on q h in let z : ⊥ = omega arith in absurd z) (known q h .0) (around q h)
-
-    void-near : (isData e c && not (isOutlet g e c)) ≡ not (anyVoid (keyOf (at e c)) l)
-    unfolding isOutlet anyVoid
+  -- ---- a void is near exactly where a key is 0
+  module _ (hc : void ≤ℤ at e c) where
+    void-near : nearVoid g e c ≡ anyVoid (keyOf (at e c)) l
+    unfolding nearVoid anyVoid
     void-near =
-        both (isData e c) (eqb (keyOf (at e c)) 0) (anyBelow 8 (leavesAt g e c)) (anyBelow 8 (λ q. eqb (getD l q 0) 0))
-        (zero-key (keyOf (at e c)) ∙ ap not (sym (data-key e c hc)))
-        (any-ext 8 (λ q. eqb (getD l q 0) 0) (leavesAt g e c) near-leaves)
-      where
-        both : (d v o w : Bool) → v ≡ not d → w ≡ o → (d && not (d && o)) ≡ not (v || w)
-        both true v o w p q = sym (ap₂ (λ (x y : Bool). not (x || y)) p q)
-        both false v o w p q = sym (ap₂ (λ (x y : Bool). not (x || y)) p q)
+        ap₂ _||_ (no-data-key e c (keyOf (at e c)) hc refl)
+        (any-ext 8 (λ q. not (isData e (neighbour g c q))) (λ q. eqb (getD l q 0) 0)
+        (λ q h. no-data-key e (neighbour g c q) (getD l q 0) (known q h .0) (around q h)))
 
     pub marked-is : markedIn across along (keyOf (at e c)) l ≡ innerSum g e c
     unfolding markedIn innerSum anyVoid
@@ -232,8 +217,7 @@ module _ (g : Grid) (e : List ℤ) (c : ℕ) (known : KnownTo g e c 8) where
       where
         near : anyVoid (keyOf (at e c)) l ≡ true → markedIn across along (keyOf (at e c)) l ≡ innerSum g e c
         near t =
-            cond-true 256 (steepestIn across along (keyOf (at e c)) l) t
-            ∙ sym (cond-false (steepestSum g e c) 256 (void-near ∙ ap not t))
+            cond-true 256 (steepestIn across along (keyOf (at e c)) l) t ∙ sym (cond-true 256 (steepestSum g e c) (void-near ∙ t))
 
         no-void : (q : ℕ) → anyVoid (keyOf (at e c)) l ≡ false → q < 8 → key q ≡ 0 → ⊥
         no-void q t h z =
@@ -245,15 +229,14 @@ module _ (g : Grid) (e : List ℤ) (c : ℕ) (known : KnownTo g e c 8) where
         clear t =
             cond-false 256 (steepestIn across along (keyOf (at e c)) l) t
             ∙ steepest-is hc l (λ q h. around q h ∙ sym (key-or-data own (key q) (no-void q t h)))
-            ∙ sym (cond-true (steepestSum g e c) 256 (void-near ∙ ap not t))
+            ∙ sym (cond-false 256 (steepestSum g e c) (void-near ∙ t))
 
 -- square cells go by the distances of 1 by 1
 pub square-marked : (g : Grid) (e : List ℤ) (c : ℕ) → g .width ≡ g .height → 0 < g .width → KnownTo g e c 8 →
-    ((q : ℕ) → q < 8 → neighbour g c q < size g) → void ≤ℤ at e c → markedIn 1 1 (keyOf (at e c)) (keysOf g e c) ≡ innerSum g e c
-unfolding keysOf innerSum neighbour cellAt
-square-marked g e c square wide known on hc =
-    marked-is (reshaped g 1 1) e c known on hc
-    ∙ ap₂ (λ (o : Bool) (s : ℕ). cond (isData e c && not o) s 256) (same-outlet g 1 1 e c) (sym (square-sum g square wide e c))
+    void ≤ℤ at e c → markedIn 1 1 (keyOf (at e c)) (keysOf g e c) ≡ innerSum g e c
+unfolding keysOf innerSum nearVoid neighbour cellAt
+square-marked g e c square wide known hc =
+    marked-is (reshaped g 1 1) e c known hc ∙ ap (cond (nearVoid g e c) 256) (sym (square-sum g square wide e c))
 
 -- what the functions work out of a cell's key and the keys around it
 pub marked-by : (w h : ℕ) {own k : ℕ} {l m : List ℕ} {sum r : ℕ} → own ≡ k → l ≡ m → sum ≡ steepestIn w h own l →

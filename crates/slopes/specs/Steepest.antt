@@ -8,8 +8,7 @@ use lib.ListN.{getD}
 use lib.IntN.{ℤ}
 use Rattle.grid.specs.declared.Grid.{Grid}
 use Rattle.grid.specs.Below.{table, anyBelow, sumBelow}
-use Rattle.grid.specs.Sheet.{at, isData, neighbour, codeAt}
-use Rattle.grid.specs.Outlet.{isOutlet}
+use Rattle.grid.specs.Sheet.{size, at, isData, neighbour, codeAt}
 use Rattle.grid.specs.Directions.{steepestSum}
 use Rattle.cells.specs.Keys.{keyOf}
 
@@ -47,14 +46,19 @@ anyVoid own l = eqb own 0 || anyBelow 8 (λ q. eqb (getD l q 0) 0)
 unfoldable pub markedIn : (w h own : ℕ) → List ℕ → ℕ
 markedIn w h own l = cond (anyVoid own l) 256 (steepestIn w h own l)
 
--- the sum of a data cell that is no outlet; 256 for an outlet and a void
-unfoldable pub innerSum : Grid → List ℤ → ℕ → ℕ
-innerSum g e c = cond (isData e c && not (isOutlet g e c)) (steepestSum g e c) 256
+-- the cell or one around it holds no data
+unfoldable pub nearVoid : Grid → List ℤ → ℕ → Bool
+nearVoid g e c = not (isData e c) || anyBelow 8 (λ p. not (isData e (neighbour g c p)))
 
--- the cells from `from` to `to` have their sums in the work buffer, and those before them what they had
+-- the sum of a cell, or 256 near a void, where the rule of outlets is asked for
+unfoldable pub innerSum : Grid → List ℤ → ℕ → ℕ
+innerSum g e c = cond (nearVoid g e c) 256 (steepestSum g e c)
+
+-- the cells from `from` to `to` have their sums in the work buffer, and those before them, and what is past the cells, what they had
 pub record SumsTo (g : Grid) (e : List ℤ) (from to : ℕ) (work₀ work : List ℕ) : Type 0 where
   pub sums : (c : ℕ) → from ≤ c → c < to → getD work c 0 ≡ innerSum g e c
   pub before : (c : ℕ) → c < from → getD work c 0 ≡ getD work₀ c 0
+  pub beyond : (i : ℕ) → size g ≤ i → getD work i 0 ≡ getD work₀ i 0
 
 -- ---- worked out by classes of equally far positions: a class's lowest key has its largest drop
 unfoldable pub lowerOf : ℕ → ℕ → ℕ

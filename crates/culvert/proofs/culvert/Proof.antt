@@ -5,6 +5,7 @@ use lib.ListN.{length}
 use borrow.Author.Needs.{needs}
 use Rattle.cells.specs.Keys.{levelOf}
 use Rattle.cells.proofs.Keys.{known-level}
+use Rattle.culvert.proofs.Loaded.{level-above}
 use Rattle.culvert.proofs.Promise.{fits, promise-of-no, promise-of-yes}
 use Rattle.culvert.proofs.culvert.Statement.{statement}
 use Rattle.culvert.proofs.culvert.Tie as tie
@@ -34,7 +35,7 @@ drain-opened-requires c κs =
     let a = b .before .before .before .before .before .args in
     let h = fits (a .g) (a .elevations .now) (a .cell) (levelOf (k .result)) (length (a .filled .now)) (length (a .codes .now))
     (length (a .counts .now)) (length (a .labels .now)) (length (a .work .now)) (q .result) (q .ensures) (y .if1 .left) in
-    (h .0, (h .1, (h .2, k .ensures .1 .0)))
+    (h .0, (h .1, (h .2, (level-above (a .elevations .now) (a .cell) (k .result) (h .3), k .ensures .1 .0))))
 
 same-length : tie.Need-same-length
 same-length c = search needs

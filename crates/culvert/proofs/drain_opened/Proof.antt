@@ -6,10 +6,11 @@ use native.Mathlib.Omega.{arith}
 use lib.ListN.{length}
 use lib.IntN.{ℤ}
 use borrow.Author.Needs.{needs}
+use Rattle.grid_laws.proofs.Cells.{on-sheet}
 use Rattle.drainage.specs.Results.{Measured}
 use Rattle.grid.specs.Checks.{accepted, askReach}
 use Rattle.drainage.proofs.Four.{four-of}
-use Rattle.culvert.proofs.Loaded.{loaded-opened-keys, loaded-opened-sheet}
+use Rattle.culvert.proofs.Loaded.{loaded-opened-keys, loaded-opened-voids, loaded-opened-sheet}
 use Rattle.culvert.proofs.drain_opened.Statement.{statement}
 use Rattle.culvert.proofs.drain_opened.Tie as tie
 
@@ -17,7 +18,12 @@ load-requires : tie.Need-load-requires
 load-requires c κs = search needs
 
 open-cell-requires : tie.Need-open-cell-requires
-open-cell-requires c κs = search needs
+open-cell-requires c κs =
+    let d = c .before .before .before in
+    let s = d .before .before .before .before .before .before in
+    let a = s .args in
+    let same = d .load .kept .1 .0 in
+    omega (arith, s .pre .0 .room, on-sheet (a .g) (a .elevations .now) (s .pre .1 .0) (a .cell) (s .pre .1 .1 .0))
 
 drain-loaded-requires : tie.Need-drain-loaded-requires
 drain-loaded-requires c κs =
@@ -28,10 +34,18 @@ drain-loaded-requires c κs =
     let o = b .open-cell in
     let l = d .load in
     let same = l .kept .1 .0 in
-    let on : a .cell < length (l .last .1 .0) = omega (arith, s .pre .0 .room, s .pre .1 .1 .0) in (
+    let on : a .cell < length (l .last .1 .0) =
+    omega (arith, s .pre .0 .room, on-sheet (a .g) (a .elevations .now) (s .pre .1 .0) (a .cell) (s .pre .1 .1 .0)) in (
       subst (Measured (a .g) _ _ _ _) (sym (o .kept .0 ∙ same)) (s .pre .0),
-      loaded-opened-keys (a .g) (a .elevations .now) (l .last .1 .0) (o .last .0) (a .cell) (a .key) (s .pre .1 .0) (l .ensures .1)
-          (l .ensures .0) on (o .ensures) (s .pre .1 .1 .1),
+      (
+        s .pre .1 .0,
+        (
+          loaded-opened-keys (a .g) (a .elevations .now) (l .last .1 .0) (o .last .0) (a .cell) (a .key) (s .pre .1 .0) (l .ensures .1)
+              (l .ensures .0) on (o .ensures) (s .pre .1 .1 .1 .1),
+          loaded-opened-voids (a .g) (a .elevations .now) (l .last .1 .0) (o .last .0) (a .cell) (a .key) (s .pre .1 .0) (l .ensures .1)
+              (l .ensures .0) on (o .ensures) (s .pre .1 .1 .0) (s .pre .1 .1 .1 .0),
+        ),
+      ),
     )
 
 same-length : tie.Need-same-length
@@ -59,7 +73,8 @@ returns c =
     let o = b .open-cell in
     let l = d .load in
     let same = l .kept .1 .0 in
-    let on : a .cell < length (l .last .1 .0) = omega (arith, s .pre .0 .room, s .pre .1 .1 .0) in
+    let on : a .cell < length (l .last .1 .0) =
+    omega (arith, s .pre .0 .room, on-sheet (a .g) (a .elevations .now) (s .pre .1 .0) (a .cell) (s .pre .1 .1 .0)) in
     let sheet =
     loaded-opened-sheet (a .g) (a .elevations .now) (l .last .1 .0) (o .last .0) (a .cell) (a .key) (s .pre .1 .0) (l .ensures .1)
     (l .ensures .0) on (o .ensures) in

@@ -7,6 +7,7 @@ use lib.IntN.{ℤ}
 use borrow.Author.Needs.{needs}
 use Rattle.grid.specs.Checks.{accepted, askReach}
 use Rattle.fill.proofs.Words.{loaded-keys, loaded-sheet}
+use Rattle.fill.proofs.Voids.{loaded-voids}
 use Rattle.drainage.specs.Results.{Measured}
 use Rattle.drainage.proofs.Four.{measured, four-of}
 use Rattle.drainage.proofs.Promise.{sized, promise-of-no, promise-of-yes}
@@ -44,7 +45,13 @@ drain-loaded-requires c κs =
     let z = sized (a .g) (length (a .elevations .now)) (length (a .filled .now)) (length (a .codes .now)) (length (a .counts .now))
     (length (a .labels .now)) (length (a .work .now)) (k .result) (k .ensures) (y .if1 .left) in (
       subst (Measured (a .g) _ _ _ _) (sym (l .kept .1 .0)) (measured (a .g) _ _ _ _ _ _ z),
-      loaded-keys (a .g) (a .elevations .now) (l .last .1 .0) (z .inputs-have .0) (l .ensures .1) (l .ensures .0),
+      (
+        z .inputs-have .0,
+        (
+          loaded-keys (a .g) (a .elevations .now) (l .last .1 .0) (z .inputs-have .0) (l .ensures .1) (l .ensures .0),
+          loaded-voids (a .g) (a .elevations .now) (l .last .1 .0) (z .inputs-have .0) (l .ensures .1) (l .ensures .0),
+        ),
+      ),
     )
 
 same-length : tie.Need-same-length
@@ -77,7 +84,7 @@ returns-2 c =
     promise-of-yes (a .g) (a .elevations .now) (a .filled .now) (a .codes .now) (a .counts .now) (a .labels .now) (a .work .now)
     (k .result) (k .ensures) (y .if1 .left) _ _ _ _ _ (w .result)
     (w .ensures .0 ∙ ap (λ (x : List ℤ). askReach (a .g) x accepted) sheet) (four-of sheet (w .ensures .1))
-    (w .kept .1 .1 .1 .1 .1 .0 ∙ l .kept .1 .0)
+    (w .kept .1 .1 .1 .1 .1 .1 .0 ∙ l .kept .1 .0)
 
 pub drain-spec : {M : Type 1} → statement M
 drain-spec =

@@ -9,7 +9,7 @@ use Rattle.checks.proofs.Questions.{reach-yes}
 use Rattle.fill.specs.Words.{sheetIn}
 use Rattle.fill.proofs.Words.{sheet-length, sheet-sixteen}
 use Rattle.drainage.proofs.Four.{stranded-four, four-of-yes}
-use Rattle.drainage.proofs.Steps.{reach, fills, codes-right, routable}
+use Rattle.drainage.proofs.Steps.{filled-marked, reach, fills, codes-right, routable}
 use borrow.Author.Needs.{needs}
 use Rattle.drainage.proofs.drain_loaded.Statement.{statement}
 use Rattle.drainage.proofs.drain_loaded.Tie as tie
@@ -20,16 +20,16 @@ fill-loaded-requires c κs =
     let M = s .pre .0 in
     let few = M .fits .cells in
     let narrow = M .fits .cols-high in
-    (omega arith, (omega arith, (M .filled-has, (M .room, s .pre .1))))
+    (s .pre .1 .0, (omega arith, (omega arith, (M .filled-has, (M .room, s .pre .1 .1)))))
 
 -- a cell's number fits 32 bits
-cast-t15 : tie.Need-cast-t15
-cast-t15 c =
+cast-t16 : tie.Need-cast-t16
+cast-t16 c =
     let b = c .before .before .before .before in
     let M = b .before .before .before .before .before .before .before .pre .0 in
     let few = M .fits .cells in
     let has = M .filled-has in
-    let same = b .fill-loaded .kept .1 .0 in
+    let same = b .fill-loaded .kept .1 .1 .0 in
     let h = c .if1 .taken in
     omega arith
 
@@ -47,13 +47,32 @@ returns c =
     let a = s .args in
     let n = size (a .g) in
     let has = s .pre .0 .filled-has in
-    let same = fi .kept .1 .0 in
+    let same = fi .kept .1 .1 .0 in
     let h = c .if1 .taken in
-    stranded-four (a .g) (sheetIn n (a .work .now)) (a .filled .now) (fi .last .1 .0) (a .codes .now) (a .counts .now) (a .labels .now)
-    (fi .result) (fi .ensures .0) (fi .ensures .1) (omega arith)
+    stranded-four (a .g) (sheetIn n (a .work .now)) (a .filled .now) (fi .last .1 .1 .0) (a .codes .now) (a .counts .now) (a .labels .now)
+    (fi .result) (fi .ensures .0) (fi .ensures .1 .0) (omega arith)
 
 directions-into-requires : tie.Need-directions-into-requires
-directions-into-requires c κs = search needs
+directions-into-requires c κs =
+    let e = c .before .before .before in
+    let b = c .before .before .before .before .before .before .before in
+    let fi = b .fill-loaded in
+    let s = b .before .before .before .before .before .before .before in
+    let a = s .args in
+    let n = size (a .g) in
+    let M = s .pre .0 in
+    let few = M .fits .cells in
+    let narrow = M .fits .cols-high in
+    let room = M .room in
+    let has = M .filled-has in
+    let same = fi .kept .1 .1 .0 in
+    let long = fi .kept .1 .1 .1 .0 in
+    let h = e .if1 .left in
+    let marks =
+    filled-marked (a .g) (sheetIn n (a .work .now)) (a .filled .now) (fi .last .1 .1 .0) (fi .last .1 .1 .1 .0) (fi .result) _ _
+    (sheet-length n (a .work .now)) (sheet-sixteen n (a .work .now) (s .pre .1 .1 .0)) (fi .ensures .0) (omega arith)
+    (fi .ensures .1 .0) long (fi .ensures .1 .1) in
+    (omega arith, (same ∙ has, (M .codes-have, (omega arith, (omega arith, (M .shaped, marks))))))
 
 mul-route-results : tie.Need-mul-route-results
 mul-route-results c = search needs
@@ -77,14 +96,14 @@ route-results-requires c κs =
     let fi = b .fill-loaded in
     let di = d .directions-into in
     let n = size (a .g) in
-    let same = fi .kept .1 .0 in
+    let same = fi .kept .1 .1 .0 in
     let h = e .if1 .left in
-    routable (a .g) (sheetIn n (a .work .now)) (a .filled .now) (fi .last .1 .0) (a .codes .now) (di .last .1 .1 .0)
+    routable (a .g) (sheetIn n (a .work .now)) (a .filled .now) (fi .last .1 .1 .0) (a .codes .now) (di .last .1 .1 .0)
     (length (a .filled .now)) (length (a .codes .now)) (length (a .counts .now)) (length (a .labels .now)) (length (a .work .now))
     (fi .result) (di .result)
-    (s .pre .0) (sheet-length n (a .work .now)) (sheet-sixteen n (a .work .now) (s .pre .1)) (fi .ensures .0) (omega arith)
-    (fi .ensures .1) (di .ensures .0) (di .ensures .1) (di .last .1 .1 .1 .0)
-    (di .kept .1 .1 .1 .0 ∙ fi .kept .1 .1 .0)
+    (s .pre .0) (sheet-length n (a .work .now)) (sheet-sixteen n (a .work .now) (s .pre .1 .1 .0)) (fi .ensures .0) (omega arith)
+    (fi .ensures .1 .0) (di .ensures .0) (di .ensures .1) (di .last .1 .1 .1 .0)
+    (di .kept .1 .1 .1 .0 ∙ fi .kept .1 .1 .1 .0)
 
 same-length-3 : tie.Need-same-length-3
 same-length-3 c = search needs
@@ -115,26 +134,26 @@ returns-2 c =
     let n = size (a .g) in
     let input = sheetIn n (a .work .now) in
     let cells = sheet-length n (a .work .now) in
-    let range = sheet-sixteen n (a .work .now) (s .pre .1) in
-    let same = fi .kept .1 .0 in
+    let range = sheet-sixteen n (a .work .now) (s .pre .1 .1 .0) in
+    let same = fi .kept .1 .1 .0 in
     let h = e .if1 .left in
     let on =
-    reach (a .g) input (a .filled .now) (fi .last .1 .0) (a .codes .now) (di .last .1 .1 .0)
+    reach (a .g) input (a .filled .now) (fi .last .1 .1 .0) (a .codes .now) (di .last .1 .1 .0)
     (length (a .filled .now)) (length (a .codes .now)) (length (a .counts .now)) (length (a .labels .now)) (length (a .work .now))
-    (fi .result) (di .result) (s .pre .0) cells range (fi .ensures .0) (omega arith) (fi .ensures .1) (di .ensures .0)
+    (fi .result) (di .result) (s .pre .0) cells range (fi .ensures .0) (omega arith) (fi .ensures .1 .0) (di .ensures .0)
     (di .ensures .1) in
     let full =
-    fills (a .g) input (a .filled .now) (fi .last .1 .0) (a .codes .now) (di .last .1 .1 .0)
+    fills (a .g) input (a .filled .now) (fi .last .1 .1 .0) (a .codes .now) (di .last .1 .1 .0)
     (length (a .filled .now)) (length (a .codes .now)) (length (a .counts .now)) (length (a .labels .now)) (length (a .work .now))
-    (fi .result) (di .result) (s .pre .0) cells range (fi .ensures .0) (omega arith) (fi .ensures .1) (di .ensures .0)
+    (fi .result) (di .result) (s .pre .0) cells range (fi .ensures .0) (omega arith) (fi .ensures .1 .0) (di .ensures .0)
     (di .ensures .1) in
     let codes =
-    codes-right (a .g) input (a .filled .now) (fi .last .1 .0) (a .codes .now) (di .last .1 .1 .0)
+    codes-right (a .g) input (a .filled .now) (fi .last .1 .1 .0) (a .codes .now) (di .last .1 .1 .0)
     (length (a .filled .now)) (length (a .codes .now)) (length (a .counts .now)) (length (a .labels .now)) (length (a .work .now))
-    (fi .result) (di .result) (s .pre .0) cells range (fi .ensures .0) (omega arith) (fi .ensures .1) (di .ensures .0)
+    (fi .result) (di .result) (s .pre .0) cells range (fi .ensures .0) (omega arith) (fi .ensures .1 .0) (di .ensures .0)
     (di .ensures .1) in (
       sym (reach-yes (a .g) input accepted on),
-      four-of-yes (a .g) input (a .filled .now) (fi .last .1 .0) (a .codes .now) (a .counts .now) (a .labels .now) accepted refl cells range
+      four-of-yes (a .g) input (a .filled .now) (fi .last .1 .1 .0) (a .codes .now) (a .counts .now) (a .labels .now) accepted refl cells range
           on (di .last .1 .1 .0) (ro .last .1 .1 .0) (ro .last .1 .1 .1 .0) full codes (ro .ensures .0) (ro .ensures .1),
     )
 
@@ -143,7 +162,7 @@ drain-loaded-spec =
     tie.close
     (tie.spec
     fill-loaded-requires
-    cast-t15
+    cast-t16
     same-length
     same-length-2
     returns

@@ -10,6 +10,7 @@ use Rattle.grid.specs.Sheet.{size}
 use Rattle.grid.specs.Outlet.{firstStranded}
 use Rattle.grid.specs.Fill.{filled}
 use Rattle.fill.proofs.Words.{loaded-keys, loaded-sheet}
+use Rattle.fill.proofs.Voids.{loaded-voids}
 use Rattle.fill.proofs.Promise.{refused-promise, accepted-sizes, stranded-promise, accepted-promise}
 use Rattle.fill.proofs.fill.Statement.{statement}
 use Rattle.fill.proofs.fill.Tie as tie
@@ -44,7 +45,8 @@ fill-loaded-requires c κs =
     let room = s .4 in
     let same = l .kept .1 .0 in
     let keys = loaded-keys (a .g) (a .elevations .now) (l .last .1 .0) (s .2) (l .ensures .1) (l .ensures .0) in
-    (s .0, (s .1, (s .3, (omega arith, keys))))
+    let voids = loaded-voids (a .g) (a .elevations .now) (l .last .1 .0) (s .2) (l .ensures .1) (l .ensures .0) in
+    (s .2, (s .0, (s .1, (s .3, (omega arith, (keys, voids))))))
 
 -- a cell's number fits 32 bits
 cast-t18 : tie.Need-cast-t18
@@ -77,9 +79,9 @@ returns-2 c =
     let s = accepted-sizes (a .g) (a .elevations .now) (a .filled .now) (a .work .now) (k .result) (k .ensures) (y .if1 .left) in
     let sheet = loaded-sheet (a .g) (a .elevations .now) (l .last .1 .0) (s .2) (l .ensures .1) (l .ensures .0) in
     stranded-promise (a .g) (a .elevations .now) (a .filled .now) (a .work .now) (k .result) (k .ensures) (y .if1 .left)
-    (f .result) (f .ensures .0 ∙ ap (firstStranded (a .g)) sheet) (f .last .1 .0) (f .last .1 .1 .0)
-    (f .ensures .1 ∙ ap (λ (x : List ℤ). cond (eqb (f .result) (size (a .g))) (filled (a .g) x) (a .filled .now)) sheet)
-    (f .kept .1 .1 .0 ∙ l .kept .1 .0) (c .if2 .taken)
+    (f .result) (f .ensures .0 ∙ ap (firstStranded (a .g)) sheet) (f .last .1 .1 .0) (f .last .1 .1 .1 .0)
+    (f .ensures .1 .0 ∙ ap (λ (x : List ℤ). cond (eqb (f .result) (size (a .g))) (filled (a .g) x) (a .filled .now)) sheet)
+    (f .kept .1 .1 .1 .0 ∙ l .kept .1 .0) (c .if2 .taken)
 
 same-length-3 : tie.Need-same-length-3
 same-length-3 c = search needs
@@ -99,9 +101,9 @@ returns-3 c =
     let s = accepted-sizes (a .g) (a .elevations .now) (a .filled .now) (a .work .now) (k .result) (k .ensures) (y .if1 .left) in
     let sheet = loaded-sheet (a .g) (a .elevations .now) (l .last .1 .0) (s .2) (l .ensures .1) (l .ensures .0) in
     accepted-promise (a .g) (a .elevations .now) (a .filled .now) (a .work .now) (k .result) (k .ensures) (y .if1 .left)
-    (f .result) (f .ensures .0 ∙ ap (firstStranded (a .g)) sheet) (f .last .1 .0) (f .last .1 .1 .0)
-    (f .ensures .1 ∙ ap (λ (x : List ℤ). cond (eqb (f .result) (size (a .g))) (filled (a .g) x) (a .filled .now)) sheet)
-    (f .kept .1 .1 .0 ∙ l .kept .1 .0) (c .if2 .left)
+    (f .result) (f .ensures .0 ∙ ap (firstStranded (a .g)) sheet) (f .last .1 .1 .0) (f .last .1 .1 .1 .0)
+    (f .ensures .1 .0 ∙ ap (λ (x : List ℤ). cond (eqb (f .result) (size (a .g))) (filled (a .g) x) (a .filled .now)) sheet)
+    (f .kept .1 .1 .1 .0 ∙ l .kept .1 .0) (c .if2 .left)
 
 pub fill-spec : {M : Type 1} → statement M
 fill-spec =

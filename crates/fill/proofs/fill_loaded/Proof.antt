@@ -26,8 +26,10 @@ returns c =
     let b = c .before .before .before in
     let f = b .fill-words in
     let n = size (b .before .before .before .before .args .g) in
-    let short = c .if1 .taken in
-    (f .ensures .0, sym (cond-false _ _ (ne-eqb (f .result) n (λ q. let z : ⊥ = omega arith in absurd z))))
+    let short = c .if1 .taken in (
+      f .ensures .0,
+      (sym (cond-false _ _ (ne-eqb (f .result) n (λ q. let z : ⊥ = omega arith in absurd z))), f .ensures .1 .1),
+    )
 
 unload-requires : tie.Need-unload-requires
 unload-requires c κs = search needs
@@ -52,10 +54,13 @@ returns-2 c =
     let end = e .if1 .left in
     let none : f .result ≡ n = omega arith in (
       first,
-      unloaded-filled (a .g) (sheetIn n (a .work .now)) (f .last .1 .0) (sheet-length n (a .work .now))
-          (sheet-sixteen n (a .work .now) (s .pre .1 .1 .1 .1)) (f .ensures .1 none)
-          (u .last .1 .1 .0) (u .kept .1 .1 .0 ∙ s .pre .1 .1 .0) (u .ensures)
-          ∙ sym (cond-true _ _ (eq-eqb (f .result) n none)),
+      (
+        unloaded-filled (a .g) (sheetIn n (a .work .now)) (f .last .1 .1 .0) (sheet-length n (a .work .now))
+            (sheet-sixteen n (a .work .now) (s .pre .1 .1 .1 .1 .1 .0)) (f .ensures .1 .0 none)
+            (u .last .1 .1 .0) (u .kept .1 .1 .0 ∙ s .pre .1 .1 .1 .0) (u .ensures)
+            ∙ sym (cond-true _ _ (eq-eqb (f .result) n none)),
+        f .ensures .1 .1,
+      ),
     )
 
 pub fill-loaded-spec : {M : Type 1} → statement M

@@ -3,6 +3,7 @@ use mathlib.Core.Path.{_∙_, ap}
 use native.Mathlib.Omega.{arith}
 use Rattle.grid.specs.Outlet.{firstStranded}
 use Rattle.fill.proofs.Words.{loaded-keys, loaded-sheet, words-of}
+use Rattle.fill.proofs.Voids.{loaded-voids}
 use borrow.Author.Needs.{needs}
 use Rattle.fill.proofs.fill_sheet.Statement.{statement}
 use Rattle.fill.proofs.fill_sheet.Tie as tie
@@ -18,7 +19,8 @@ fill-words-requires c κs =
     let same = l .kept .1 .0 in
     let room = s .pre .1 .1 .1 in
     let keys = loaded-keys (a .g) (a .elevations .now) (l .last .1 .0) (s .pre .1 .1 .0) (l .ensures .1) (l .ensures .0) in
-    (s .pre .0, (s .pre .1 .0, (omega arith, keys)))
+    let voids = loaded-voids (a .g) (a .elevations .now) (l .last .1 .0) (s .pre .1 .1 .0) (l .ensures .1) (l .ensures .0) in
+    (s .pre .1 .1 .0, (s .pre .0, (s .pre .1 .0, (omega arith, (keys, voids)))))
 
 same-length : tie.Need-same-length
 same-length c = search needs
@@ -32,7 +34,7 @@ returns c =
     let a = s .args in
     let sheet = loaded-sheet (a .g) (a .elevations .now) (l .last .1 .0) (s .pre .1 .1 .0) (l .ensures .1) (l .ensures .0) in (
       f .ensures .0 ∙ ap (firstStranded (a .g)) sheet,
-      (λ q. words-of (a .g) _ (a .elevations .now) (f .last .1 .0) sheet (f .ensures .1 q), l .ensures .1),
+      (λ q. words-of (a .g) _ (a .elevations .now) (f .last .1 .1 .0) sheet (f .ensures .1 .0 q), l .ensures .1),
     )
 
 pub fill-sheet-spec : {M : Type 1} → statement M

@@ -15,8 +15,8 @@ use Rattle.flood.proofs.spread.Reads as spread-reads
 
 abbrev Inv-loop : tie.InvT-loop
 Inv-loop g half k v start len offsets work₀ head₀ tail₀ work head tail =
-    (length work ≡ length work₀) × (frontOf (size g) work ≡ frontOf (size g) work₀)
-    × During g (frontOf (size g) work₀) (backOf (size g) half work) k v head tail
+    (length work ≡ length work₀) × (frontOf (size g) half work ≡ frontOf (size g) half work₀)
+    × During g (frontOf (size g) half work₀) (backOf (size g) half work) k v head tail
 
 abbrev μ-loop : tie.MeasureT-loop
 μ-loop g half k v start len offsets work₀ head₀ tail₀ work head tail = size g - head

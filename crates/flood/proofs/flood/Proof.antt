@@ -16,8 +16,8 @@ use Rattle.flood.proofs.visit.Reads as visit-reads
 
 abbrev Inv-loop : tie.InvT-loop
 Inv-loop g half work₀ n offsets len₀ k₀ work len k =
-    (k ≤ size g) × (length work ≡ length work₀) × (frontOf (size g) work ≡ frontOf (size g) work₀)
-    × Between g (frontOf (size g) work₀) (backOf (size g) half work) k len
+    (k ≤ size g) × (length work ≡ length work₀) × (frontOf (size g) half work ≡ frontOf (size g) half work₀)
+    × Between g (frontOf (size g) half work₀) (backOf (size g) half work) k len
 
 abbrev μ-loop : tie.MeasureT-loop
 μ-loop g half work₀ n offsets len₀ k₀ work len k = size g - k

@@ -12,22 +12,22 @@ use Rattle.flood.proofs.opening_border.Reads as opening-border-reads
 use Rattle.flood.proofs.opening_inner.Reads as opening-inner-reads
 
 div-is-inner : tie.Need-div-is-inner
-div-is-inner c = let s = c .before in cols-positive (s .args .g) (s .args .c) (s .pre .1 .1 .0 .0)
+div-is-inner c = let s = c .before in cols-positive (s .args .g) (s .args .c) (s .pre .1 .1 .1 .0 .0)
 
 rem-is-inner : tie.Need-rem-is-inner
-rem-is-inner c = let s = c .before in cols-positive (s .args .g) (s .args .c) (s .pre .1 .1 .0 .0)
+rem-is-inner c = let s = c .before in cols-positive (s .args .g) (s .args .c) (s .pre .1 .1 .1 .0 .0)
 
 is-inner-requires : tie.Need-is-inner-requires
 is-inner-requires c κs =
     let s = c .before in
     let a = s .args in
-    let h = s .pre .1 .1 .0 .0 in
+    let h = s .pre .1 .1 .1 .0 .0 in
     (omega (arith, div-le-self (a .c) (a .g .cols)), omega (arith, mod-le (a .c) (a .g .cols)))
 
 opening-inner-requires : tie.Need-opening-inner-requires
 opening-inner-requires c κs =
     let p = c .before .before .before .pre in
-    (p .0, (p .1 .0, (p .1 .1 .0, (c .before .is-inner .ensures (c .if1 .taken), p .1 .1 .1))))
+    (p .0, (p .1 .0, (p .1 .1 .0, (p .1 .1 .1 .0, (c .before .is-inner .ensures (c .if1 .taken), p .1 .1 .1 .1)))))
 
 returns : tie.Need-returns
 returns c = search needs

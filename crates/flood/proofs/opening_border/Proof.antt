@@ -14,7 +14,7 @@ use Rattle.flood.proofs.opening_border.Tie as tie
 
 abbrev Inv-loop : tie.InvT-loop
 Inv-loop g half c work n p₀ p =
-    (p ≤ 8) × ((q : ℕ) → q < p → Opens g (frontOf (size g) work) (backOf (size g) half work) q (neighbour g c q) → ⊥)
+    (p ≤ 8) × ((q : ℕ) → q < p → Opens g (frontOf (size g) half work) (backOf (size g) half work) q (neighbour g c q) → ⊥)
 
 abbrev μ-loop : tie.MeasureT-loop
 μ-loop g half c work n p₀ p = 8 - p
@@ -26,7 +26,7 @@ loop-holds : tie.Need-loop-holds Inv-loop μ-loop
 loop-holds c = (omega arith, λ q h. let z : ⊥ = omega arith in absurd z)
 
 neighbour-requires : tie.Need-neighbour-requires Inv-loop μ-loop
-neighbour-requires c κs = let s = c .before .before .before .before in (s .pre .0, (s .pre .1 .1 .0, c .loop-test .taken))
+neighbour-requires c κs = let s = c .before .before .before .before in (s .pre .0, (s .pre .1 .1 .1 .0, c .loop-test .taken))
 
 opens-any-requires : tie.Need-opens-any-requires Inv-loop μ-loop
 opens-any-requires c κs =
@@ -41,8 +41,8 @@ returns c =
     let a = s .args in
     let l = c .before .before .before .before .loop in
     let o = (rw (c .before .before .neighbour .ensures) at (c .before .opens-any .ensures .0 (c .if1 .taken))) in (
-      λ e. opening-of (a .g) (frontOf (size (a .g)) (a .work .now)) (backOf (size (a .g)) (a .half) (a .work .now)) (a .c) (s .pre .1 .1)
-          (l .p) (omega arith) o,
+      λ e. opening-of (a .g) (frontOf (size (a .g)) (a .half) (a .work .now)) (backOf (size (a .g)) (a .half) (a .work .now)) (a .c)
+          (s .pre .1 .1 .0) (s .pre .1 .1 .1) (l .p) (omega arith) o,
       λ e. absurd (true≢false e),
     )
 
@@ -63,7 +63,7 @@ returns-2 : tie.Need-returns-2 Inv-loop μ-loop
 returns-2 c =
     let a = c .before .before .before .before .args in (
       λ e. absurd (true≢false (sym e)),
-      λ e. none-opens (a .g) (frontOf (size (a .g)) (a .work .now)) (backOf (size (a .g)) (a .half) (a .work .now)) (a .c)
+      λ e. none-opens (a .g) (frontOf (size (a .g)) (a .half) (a .work .now)) (backOf (size (a .g)) (a .half) (a .work .now)) (a .c)
           (λ p h. c .before .loop .inv .1 p (omega arith)),
     )
 

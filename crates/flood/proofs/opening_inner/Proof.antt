@@ -13,7 +13,7 @@ use Rattle.flood.proofs.opening_inner.Tie as tie
 
 abbrev Inv-loop : tie.InvT-loop
 Inv-loop g half c offsets work n p₀ p =
-    (p ≤ 8) × ((q : ℕ) → q < p → Opens g (frontOf (size g) work) (backOf (size g) half work) q (neighbour g c q) → ⊥)
+    (p ≤ 8) × ((q : ℕ) → q < p → Opens g (frontOf (size g) half work) (backOf (size g) half work) q (neighbour g c q) → ⊥)
 
 abbrev μ-loop : tie.MeasureT-loop
 μ-loop g half c offsets work n p₀ p = 8 - p
@@ -27,7 +27,7 @@ loop-holds c = (omega arith, λ q h. let z : ⊥ = omega arith in absurd z)
 beside-requires : tie.Need-beside-requires Inv-loop μ-loop
 beside-requires c κs =
     let s = c .before .before .before .before in
-    (s .pre .0, (s .pre .1 .1 .1 .0, (c .loop-test .taken, s .pre .1 .1 .1 .1)))
+    (s .pre .0, (s .pre .1 .1 .1 .1 .0, (c .loop-test .taken, s .pre .1 .1 .1 .1 .1)))
 
 opens-requires : tie.Need-opens-requires Inv-loop μ-loop
 opens-requires c κs = (c .before .before .before .before .before .pre .1 .0, c .beside .ensures .1)
@@ -36,12 +36,12 @@ returns : tie.Need-returns Inv-loop μ-loop
 returns c =
     let s = c .before .before .before .before .before .before .before in
     let a = s .args in
-    let f = frontOf (size (a .g)) (a .work .now) in
+    let f = frontOf (size (a .g)) (a .half) (a .work .now) in
     let b = backOf (size (a .g)) (a .half) (a .work .now) in
     let l = c .before .before .before .before .loop in
     let m = c .before .before .beside .ensures in
     let o = opens-on (a .g) f b (l .p) (m .0) (m .1) (c .before .opens .ensures .0 (c .if1 .taken)) in (
-      λ e. opening-of (a .g) f b (a .c) (s .pre .1 .1 .0) (l .p) (omega arith) o,
+      λ e. opening-of (a .g) f b (a .c) (s .pre .1 .1 .0) (s .pre .1 .1 .1 .0) (l .p) (omega arith) o,
       λ e. absurd (true≢false e),
     )
 
@@ -54,7 +54,7 @@ loop-less c = omega arith
 loop-again : tie.Need-loop-again Inv-loop μ-loop
 loop-again c =
     let a = c .before .before .before .before .before .before .before .args in
-    let f = frontOf (size (a .g)) (a .work .now) in
+    let f = frontOf (size (a .g)) (a .half) (a .work .now) in
     let b = backOf (size (a .g)) (a .half) (a .work .now) in
     let l = c .before .before .before .before .loop in
     let m = c .before .before .beside .ensures in
@@ -65,7 +65,7 @@ returns-2 : tie.Need-returns-2 Inv-loop μ-loop
 returns-2 c =
     let a = c .before .before .before .before .args in (
       λ e. absurd (true≢false (sym e)),
-      λ e. none-opens (a .g) (frontOf (size (a .g)) (a .work .now)) (backOf (size (a .g)) (a .half) (a .work .now)) (a .c)
+      λ e. none-opens (a .g) (frontOf (size (a .g)) (a .half) (a .work .now)) (backOf (size (a .g)) (a .half) (a .work .now)) (a .c)
           (λ p h. c .before .loop .inv .1 p (omega arith)),
     )
 

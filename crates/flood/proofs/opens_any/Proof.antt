@@ -16,7 +16,7 @@ returns c =
     let t = c .before in
     let s = t .before .before in
     let a = s .args in
-    let f = frontOf (size (a .g)) (a .work .now) in
+    let f = frontOf (size (a .g)) (a .half) (a .work .now) in
     let b = backOf (size (a .g)) (a .half) (a .work .now) in
     let off : a .m ≡ size (a .g) = (let far = t .if1 .taken in omega arith) in
     let o = c .is-open .ensures in
@@ -30,7 +30,7 @@ returns-2 c =
     let t = c .before in
     let s = t .before .before in
     let a = s .args in
-    let f = frontOf (size (a .g)) (a .work .now) in
+    let f = frontOf (size (a .g)) (a .half) (a .work .now) in
     let b = backOf (size (a .g)) (a .half) (a .work .now) in
     let q = s .pre .0 in
     let on : a .m < size (a .g) = rw q at (t .if1 .left) in

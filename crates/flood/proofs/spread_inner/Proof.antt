@@ -16,8 +16,8 @@ use Rattle.flood.proofs.touch.Reads as touch-reads
 
 abbrev Inv-loop : tie.InvT-loop
 Inv-loop g half k v head len x offsets work₀ n tail₀ p₀ work tail p =
-    (p ≤ 8) × (length work ≡ length work₀) × (frontOf (size g) work ≡ frontOf (size g) work₀)
-    × Spread g (frontOf (size g) work₀) (backOf (size g) half work) k v head tail x p
+    (p ≤ 8) × (length work ≡ length work₀) × (frontOf (size g) half work ≡ frontOf (size g) half work₀)
+    × Spread g (frontOf (size g) half work₀) (backOf (size g) half work) k v head tail x p
 
 abbrev μ-loop : tie.MeasureT-loop
 μ-loop g half k v head len x offsets work₀ n tail₀ p₀ work tail p = 8 - p

@@ -1,6 +1,7 @@
 -- A void, a reached cell and one that does not opened are passed over; any other is reached, and the queue emptied.
 use native.Mathlib.Omega.{arith}
 use mathlib.Core.Path.{refl}
+use Rattle.flood_laws.proofs.Steps.{between-data}
 use Rattle.flood.proofs.Halves.{cell-on, visit-cell, visit-void, visit-reached, visit-closed, visit-room, visit-first, visit-end}
 use borrow.Author.Tests.{not-true, not-false}
 use borrow.Author.Needs.{needs}
@@ -78,7 +79,7 @@ is-opening-requires c κs =
     let a = s .args in
     let q = visit-cell (a .g) (a .half) (a .k) (a .len) (a .work .now) (s .pre .1 .0) (s .pre .1 .1 .0) (s .pre .1 .1 .1 .0)
     (s .pre .1 .1 .1 .1 .0) (s .pre .1 .1 .1 .1 .1 .0) (c .before .before .if1 .left) (c .before .if2 .left) in
-    (s .pre .0, (omega arith, (q, s .pre .1 .1 .1 .1 .1 .1)))
+    (s .pre .0, (s .pre .1 .1 .0, (between-data (a .g) _ _ (a .k) (a .len) (s .pre .1 .1 .1 .1 .1 .0), (q, s .pre .1 .1 .1 .1 .1 .1))))
 
 same-length : tie.Need-same-length
 same-length c = search needs
@@ -101,7 +102,7 @@ reach-requires c κs =
     (s .pre .1 .1 .1 .1 .0) (s .pre .1 .1 .1 .1 .1 .0) (c .before .before .before .before .before .if1 .left) low in
     let q = cell-on (a .g) (a .half) (a .k) (a .len) (a .work .now) (s .pre .1 .0) (s .pre .1 .1 .0) (s .pre .1 .1 .1 .0)
     (s .pre .1 .1 .1 .1 .0) in
-    (s .pre .0, (s .pre .1 .0, (s .pre .1 .1 .0, (omega arith, (low, (q, room))))))
+    (s .pre .0, (s .pre .1 .0, (omega arith, (omega arith, (low, (q, room))))))
 
 drain-requires : tie.Need-drain-requires
 drain-requires c κs =

@@ -1,6 +1,9 @@
 use mathlib.Core.Path.{refl}
+use Prim.Native.Nat.{_≤_}
+use native.Mathlib.Omega.{arith}
+use lib.ListN.{getD}
 use borrow.Author.Needs.{needs, sfits-of}
-use Rattle.flow.proofs.Flats.{low-code, high-key, high-code}
+use Rattle.flow.proofs.Flats.{low-code, no-code, high-key, high-code}
 use Rattle.flow.proofs.border_code.Statement.{statement}
 use Rattle.flow.proofs.border_code.Tie as tie
 
@@ -20,6 +23,13 @@ returns c =
     low-code (a .g) (a .elevations .now) (s .pre .0) (a .work .now) (s .pre .1 .1 .1 .1 .1 .0) (a .cell) (s .pre .1 .1 .1 .1 .0)
     (s .pre .1 .1 .1 .1 .1 .1) (c .if1 .taken)
 
+returns-2 : tie.Need-returns-2
+returns-2 c =
+    let s = c .before .before .before .before in
+    let a = s .args in
+    no-code (a .g) (a .elevations .now) (s .pre .0) (a .work .now) (s .pre .1 .1 .1 .1 .1 .0) (a .cell) (s .pre .1 .1 .1 .1 .0)
+    (c .if2 .taken)
+
 mul-key : tie.Need-mul-key
 mul-key c = search needs
 
@@ -29,31 +39,43 @@ shared-slice-copy-out-key c = search needs
 key-requires : tie.Need-key-requires
 key-requires c κs = search needs
 
+abbrev start : tie.Else2 → tie.Start
+start c = c .before .before .before .before
+
+-- a word that is neither a code nor a void's has a level above 0
+high : (c : tie.Else2) → 256 ≤ getD (start c .args .work .now) (start c .args .cell) 0
+high c =
+    let no-code = c .before .if1 .left in
+    let no-void = c .if2 .left in
+    omega arith
+
 lowest-below-requires : tie.Need-lowest-below-requires
-lowest-below-requires c κs = search needs
+lowest-below-requires c κs = high (c .before .before)
 
 flat-sum-border-requires : tie.Need-flat-sum-border-requires
 flat-sum-border-requires c κs =
     let key = c .before in
-    let high = key .before .before .if1 .left in
-    let s = key .before .before .before .before .before in
+    let flat = key .before .before in
+    let s = start flat in
     let a = s .args in
     let on = s .pre .1 .1 .1 .1 .0 in
-    let own = high-key (a .g) (a .elevations .now) (s .pre .0) (a .work .now) (s .pre .1 .1 .1 .1 .1 .0) (a .cell) on high
+    let levelled = s .pre .1 .1 .1 .1 .1 .0 in
+    let own = high-key (a .g) (a .elevations .now) (s .pre .0) (a .work .now) levelled (a .cell) on (high flat)
     (key .key .result) (sfits-of (key .before .key-arg .given)) (key .key .ensures) in
-    (s .pre .0, (s .pre .1 .0, (s .pre .1 .1 .0, (on, (own .0, (refl, (own .1, (high, c .lowest-below .ensures))))))))
+    let below = c .lowest-below .ensures in
+    (s .pre .0, (s .pre .1 .0, (s .pre .1 .1 .0, (on, (own .0, (refl, (own .1, (high flat, (below, levelled .voids)))))))))
 
 choose-requires : tie.Need-choose-requires
 choose-requires c κs = search needs
 
-returns-2 : tie.Need-returns-2
-returns-2 c =
+returns-3 : tie.Need-returns-3
+returns-3 c =
     let sum = c .before in
     let flat = sum .before .before .before .before in
-    let s = flat .before .before .before in
+    let s = start flat in
     let a = s .args in
     high-code (a .g) (a .elevations .now) (s .pre .0) (a .work .now) (s .pre .1 .1 .1 .1 .1 .0) (a .cell) (s .pre .1 .1 .1 .1 .0)
-    (flat .if1 .left) (sum .flat-sum-border .ensures .0) (c .choose .ensures)
+    (high flat) (sum .flat-sum-border .ensures .0) (c .choose .ensures)
 
 pub border-code-spec : {M : Type 1} → statement M
 border-code-spec =
@@ -63,10 +85,11 @@ border-code-spec =
     shared-slice-read-word
     cast-result
     returns
+    returns-2
     mul-key
     shared-slice-copy-out-key
     key-requires
     lowest-below-requires
     flat-sum-border-requires
     choose-requires
-    returns-2)
+    returns-3)

@@ -1,9 +1,10 @@
-use mathlib.Core.Path.{_∙_, ap}
+use mathlib.Core.Path.{sym, _∙_, ap}
 use native.Mathlib.Omega.{arith}
 use Rattle.grid.specs.Directions.{choice}
 use Rattle.cells.proofs.Codes.{outlet-none}
-use Rattle.cells.proofs.Keys.{zero-no-data}
-use Rattle.flow.proofs.Seeds.{void-word, outlet-word, drop-word, sum-below, key-data}
+use Rattle.cells.proofs.Keys.{zero-no-data, data-by-key}
+use Rattle.flow_laws.proofs.Words.{first-void}
+use Rattle.flow.proofs.Seeds.{outlet-word, drop-word, sum-below}
 use borrow.Author.Needs.{needs}
 use Rattle.flow.proofs.edge_word.Statement.{statement}
 use Rattle.flow.proofs.edge_word.Tie as tie
@@ -13,10 +14,10 @@ key-at-requires c κs = search needs
 
 returns : tie.Need-returns
 returns c =
-    let a = c .before .before .args in
+    let a = c .before .before .before .args in
     let key = c .before .key-at in
-    void-word (a .g) (a .elevations .now) (a .cell)
-    (zero-no-data (a .elevations .now) (a .cell) (key .result) (key .ensures .0) (key .ensures .1 .1 .0) (c .if1 .taken))
+    sym (first-void (a .g) (a .elevations .now) (a .cell)
+    (zero-no-data (a .elevations .now) (a .cell) (key .result) (key .ensures .0) (key .ensures .1 .1 .0) (c .if1 .taken)))
 
 outlet-code-requires : tie.Need-outlet-code-requires
 outlet-code-requires c κs = search needs
@@ -29,8 +30,8 @@ returns-2 c =
     let code = c .before .outlet-code in
     let full = c .before .before in
     let key = full .before .key-at in
-    let a = full .before .before .args in
-    let d = key-data (a .elevations .now) (a .cell) (key .result) (key .ensures .0) (key .ensures .1 .1 .0) (full .if1 .left) in
+    let a = full .before .before .before .args in
+    let d = data-by-key (a .elevations .now) (a .cell) (key .result) (key .ensures .0) (full .if1 .left) in
     outlet-word (a .g) (a .elevations .now) (a .cell) d (code .ensures d) (c .if2 .taken)
 
 edge-sum-requires : tie.Need-edge-sum-requires
@@ -41,7 +42,7 @@ cast-choose c = search needs
 
 choose-requires : tie.Need-choose-requires
 choose-requires c κs =
-    let s = c .before .before .before .before .before in
+    let s = c .before .before .before .before .before .before in
     let a = s .args in
     let small = sum-below (a .g) (a .elevations .now) (a .cell) in
     let is = c .edge-sum .ensures in
@@ -57,8 +58,8 @@ returns-3 c =
     let code = none .before .outlet-code in
     let full = none .before .before in
     let key = full .before .key-at in
-    let a = full .before .before .args in
-    let d = key-data (a .elevations .now) (a .cell) (key .result) (key .ensures .0) (key .ensures .1 .1 .0) (full .if1 .left) in
+    let a = full .before .before .before .args in
+    let d = data-by-key (a .elevations .now) (a .cell) (key .result) (key .ensures .0) (full .if1 .left) in
     let o = outlet-none (a .g) (a .elevations .now) (a .cell) (code .result) (code .ensures d) (none .if2 .left) in
     c .choose .ensures ∙ ap choice (sum .ensures) ∙ drop-word (a .g) (a .elevations .now) (a .cell) d o
 

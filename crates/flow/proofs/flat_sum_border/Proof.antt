@@ -1,5 +1,6 @@
 use Prim.Native.Nat.{_-_}
 use native.Mathlib.Omega.{arith}
+use Rattle.flow_laws.proofs.Words.{data-not-void}
 use Rattle.flow.proofs.Flats.{Summed, summed-none, summed-more, summed-all, below-is}
 use Rattle.flow.proofs.flat_sum_border.Statement.{statement}
 use Rattle.flow.proofs.flat_sum_border.Tie as tie
@@ -21,9 +22,13 @@ neighbour-requires c κs =
 is-below-any-requires : tie.Need-is-below-any-requires Inv-loop μ-loop
 is-below-any-requires c κs =
     let s = c .before .before .before .before in
+    let a = s .args in
     let len = s .pre .0 in
     let long = s .pre .1 .1 .0 in
-    (omega arith, s .pre .1 .1 .1 .1 .1 .1)
+    let high = s .pre .1 .1 .1 .1 .1 .1 in
+    let low = high .1 .1 .0 in
+    let no-void = data-not-void (a .g) (a .elevations .now) len (a .work .now) (high .1 .1 .1) (c .neighbour .result) in
+    (omega arith, (high .0, (high .1 .0, (low .0, (low .1, no-void)))))
 
 with-code-requires : tie.Need-with-code-requires Inv-loop μ-loop
 with-code-requires c κs = (c .before .before .loop-test .taken, c .before .before .before .loop .inv .small)

@@ -1,5 +1,6 @@
 use Prim.Native.Nat.{_-_}
 use native.Mathlib.Omega.{arith}
+use Rattle.flow_laws.proofs.Words.{data-not-void}
 use Rattle.flow.proofs.Flats.{Summed, summed-none, summed-more, summed-all, below-is}
 use Rattle.flow.proofs.flat_sum_inner.Statement.{statement}
 use Rattle.flow.proofs.flat_sum_inner.Tie as tie
@@ -16,17 +17,20 @@ loop-holds c = let a = c .before .args in summed-none (a .g) (a .elevations .now
 beside-requires : tie.Need-beside-requires Inv-loop μ-loop
 beside-requires c κs =
     let s = c .before .before .before in
-    let place = s .pre .1 .1 .1 .1 .1 .1 .1 .1 .1 in
+    let place = s .pre .1 .1 .1 .1 .1 .1 .1 .1 .1 .1 in
     (s .pre .1 .0, (place .0, (c .loop-test .taken, place .1)))
 
 is-below-requires : tie.Need-is-below-requires Inv-loop μ-loop
 is-below-requires c κs =
     let near = c .beside .ensures .1 in
     let s = c .before .before .before .before in
+    let a = s .args in
     let len = s .pre .0 in
     let long = s .pre .1 .1 .0 in
     let high = s .pre .1 .1 .1 .1 .1 .1 in
-    (omega arith, (omega arith, (high .0, (high .1 .0, high .1 .1 .0))))
+    let low = high .1 .1 .0 in
+    let no-void = data-not-void (a .g) (a .elevations .now) len (a .work .now) (high .1 .1 .1 .0) (c .beside .result) in
+    (omega arith, (omega arith, (high .0, (high .1 .0, (low .0, (low .1, no-void))))))
 
 with-code-requires : tie.Need-with-code-requires Inv-loop μ-loop
 with-code-requires c κs = (c .before .before .loop-test .taken, c .before .before .before .loop .inv .small)

@@ -12,12 +12,15 @@ cast-result c = search needs
 
 returns : tie.Need-returns
 returns c =
-    let s = c .before .before in
+    let s = c .before .before .before in
     c .choose .ensures
-    ∙ sum-word (s .args .g) (s .args .elevations .now) (s .args .cell) (s .args .sum) (s .pre .1 .1 .1 .1 .0) (c .before .if1 .taken)
+    ∙ sum-word (s .args .g) (s .args .elevations .now) (s .args .cell) (s .pre .0) (s .args .sum) (s .pre .1 .1 .1 .1 .0)
+    (c .before .if1 .taken)
 
 edge-word-requires : tie.Need-edge-word-requires
-edge-word-requires c κs = search needs
+edge-word-requires c κs =
+    let p = c .before .before .pre in
+    (p .0, (p .1 .0, (p .1 .1 .0, (p .1 .1 .1 .0, p .1 .1 .1 .1 .1))))
 
 returns-2 : tie.Need-returns-2
 returns-2 c = search needs

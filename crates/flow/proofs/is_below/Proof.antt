@@ -6,7 +6,7 @@ use borrow.Author.Needs.{needs, sfits-of}
 use borrow.Author.Tests.{ltb-true, ltb-false}
 use Rattle.grid.specs.Sheet.{at}
 use Rattle.cells.proofs.Keys.{Known}
-use Rattle.levels.proofs.Keyed.{key-read, differs, agrees}
+use Rattle.levels.proofs.Keyed.{key-read, differs, agrees, height-data}
 use Rattle.flow.proofs.Flats.{below, below-range}
 use Rattle.flow.proofs.is_below.Statement.{statement}
 use Rattle.flow.proofs.is_below.Tie as tie
@@ -49,7 +49,7 @@ returns-2 c =
     let p = s .pre .1 .1 .1 in (
       (λ q. absurd (true≢false (sym q))),
       λ q h u v.
-          let w = below-range near (a .low) (a .word) (p .0) (p .1 .0) (p .1 .1) u v in
+          let w = below-range near (a .low) (a .word) (p .0) (p .1 .0) (p .1 .1 .0) u v in
           let l = w .0 in
           let t = c .if2 .taken in
           omega arith,
@@ -63,10 +63,11 @@ returns-3 c =
     let a = s .args in
     let near = getD (a .work .now) (a .m) 0 in
     let p = s .pre .1 .1 .1 in
-    let height = agrees (a .k) (key .key .result) (own key .0) (own key .1 .1 .0) (same .if1 .left) in (
-      (λ q. (height, below near (a .low) (a .word) (p .0) (p .1 .0) (p .1 .1) (c .if2 .left) (ltb-true near (a .word) q))),
+    let height = agrees (a .k) (key .key .result) (own key .0) (own key .1 .1 .0) (same .if1 .left) in
+    let no-void = p .1 .1 .1 (height-data (a .elevations .now) (a .m) (a .k) height (s .pre .1 .1 .0)) in (
+      (λ q. (height, below near (a .low) (a .word) (p .0) (p .1 .0) (p .1 .1 .0) (c .if2 .left) (ltb-true near (a .word) q) no-void)),
       λ q h u v.
-          let w = below-range near (a .low) (a .word) (p .0) (p .1 .0) (p .1 .1) u v in
+          let w = below-range near (a .low) (a .word) (p .0) (p .1 .0) (p .1 .1 .0) u v in
           let l = w .1 in
           let t = ltb-false near (a .word) q in
           omega arith,

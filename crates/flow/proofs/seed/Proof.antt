@@ -28,7 +28,7 @@ returns : tie.Need-returns
 returns c =
     let s = c .before .before .before .before .before .before .before .before .before in
     let len = s .pre .0 in
-    λ i h. c .before .before .edge-words .ensures i (omega arith)
+    λ i h. c .before .before .edge-words .ensures .0 i (omega arith)
 
 edge-words-requires-2 : tie.Need-edge-words-requires-2
 edge-words-requires-2 c κs =
@@ -52,7 +52,7 @@ returns-2 : tie.Need-returns-2
 returns-2 c =
     let s = c .before .before .before .before .before .before .before .before .before .before .before in
     let len = s .pre .0 in
-    λ i h. c .before .before .edge-words2 .ensures i (omega arith)
+    λ i h. c .before .before .edge-words2 .ensures .0 i (omega arith)
 
 seed-rows-requires : tie.Need-seed-rows-requires
 seed-rows-requires c κs =

@@ -3,6 +3,7 @@ use Prim.Native.Nat.{_+_, _*_, _≤_}
 use native.Mathlib.Omega.{arith}
 use Rattle.grid.specs.Sheet.{size}
 use Rattle.cells.proofs.Rows.{row-on, next-row, within-row}
+use Rattle.flow.proofs.Seeds.{marks-kept}
 use borrow.Author.Needs.{needs}
 use Rattle.flow.proofs.seed_row.Statement.{statement}
 use Rattle.flow.proofs.seed_row.Tie as tie
@@ -64,7 +65,8 @@ inner-words-requires c κs =
       (
         s .pre .1 .0,
         (
-          omega arith,
+          marks-kept (s .args .g) (s .args .elevations .now) (s .args .base) (s .args .work .now) _ (s .pre .1 .1 .0) same
+              (sums .ensures .beyond),
           (
             s .pre .1 .1 .1 .0,
             (
@@ -88,11 +90,8 @@ edge-words-requires c κs =
     let summed = c .before .before .before .before .before .before .before in
     let s = summed .before .before .before in
     let wide = s .pre .1 .1 .1 .1 .0 .2 in
-    let long = s .pre .1 .1 .0 in
-    let same = inner .kept .1 .1 .1 .1 .1 .0 in
-    let same₀ = summed .row-sums .kept .1 .1 .1 .1 .1 .0 in
     let shaped = s .pre .1 .1 .1 .1 .1 .1 .1 in
-    (s .pre .0, (s .pre .1 .0, (omega arith, (s .pre .1 .1 .1 .0, ((omega arith, omega (arith, room s)), (inner .ensures, shaped))))))
+    (s .pre .0, (s .pre .1 .0, (inner .ensures .1, (s .pre .1 .1 .1 .0, ((omega arith, omega (arith, room s)), (inner .ensures .0, shaped))))))
 
 same-length : tie.Need-same-length
 same-length c = search needs
@@ -102,7 +101,7 @@ returns c =
     let edge = c .before .before .edge-words in
     let s = c .before .before .before .before .before .before .before .before .before .before .before .before .before in
     let wide = s .pre .1 .1 .1 .1 .0 .2 in
-    λ i h. edge .ensures i (omega (arith, next-row (s .args .g) (s .args .row)))
+    (λ i h. edge .ensures .0 i (omega (arith, next-row (s .args .g) (s .args .row))), edge .ensures .1)
 
 pub seed-row-spec : {M : Type 1} → statement M
 seed-row-spec =

@@ -3,17 +3,18 @@ use Prim.Native.Nat.{_+_, _-_, _*_, _≤_, _<_}
 use native.Mathlib.Omega.{arith}
 use lib.ListN.{length}
 use Rattle.grid.specs.Sheet.{size}
-use Rattle.flow.specs.Seeding.{WordsTo}
+use Rattle.flow.specs.Seeding.{WordsTo, MarksIn}
 use Rattle.cells.proofs.Rows.{rows-small, row-on, row-whole}
 use Rattle.flow.proofs.seed_rows.Statement.{statement}
 use Rattle.flow.proofs.seed_rows.Tie as tie
 
 abbrev Inv-loop : tie.InvT-loop
-Inv-loop g offsets elevations table work₀ rows cols row₀ work row =
+Inv-loop g offsets elevations table base work₀ rows cols row₀ work row =
     (1 ≤ row) × (row + 1 ≤ g .rows) × (length work ≡ length work₀) × WordsTo g elevations (row * g .cols + 1) work
+    × MarksIn g elevations base work
 
 abbrev μ-loop : tie.MeasureT-loop
-μ-loop g offsets elevations table work₀ rows cols row₀ work row = g .rows - row
+μ-loop g offsets elevations table base work₀ rows cols row₀ work row = g .rows - row
 
 -- two rows lie on the sheet, and a third
 three : (s : tie.Start Inv-loop μ-loop) → s .args .g .cols + s .args .g .cols + s .args .g .cols ≤ size (s .args .g)
@@ -49,7 +50,7 @@ loop-holds c =
     let first = c .before .before in
     let s = first .before .before .before in
     let tall = s .pre .1 .1 .1 .1 .0 .0 in
-    (omega arith, omega arith, refl, λ i h. first .edge-words .ensures i (omega arith))
+    (omega arith, omega arith, refl, λ i h. first .edge-words .ensures .0 i (omega arith), first .edge-words .ensures .1)
 
 abbrev start : tie.At-loop Inv-loop μ-loop → tie.Start Inv-loop μ-loop
 start c = c .before .before .before .before .before .before
@@ -70,13 +71,7 @@ add-loop c =
 
 -- the work buffer keeps its length
 kept : (c : tie.At-loop Inv-loop μ-loop) → length (c .loop .work) ≡ length (start c .args .work .now)
-kept c = c .loop .inv .2 ∙ c .before .before .before .edge-words .kept .1 .1 .1 .1 .1 .0
-
-long-at : (c : tie.At-loop Inv-loop μ-loop) → size (start c .args .g) ≤ length (c .loop .work)
-long-at c =
-    let long = start c .pre .1 .1 .0 in
-    let same = kept c in
-    omega arith
+kept c = c .loop .inv .2 ∙ c .before .before .before .edge-words .kept .1 .1 .1 .1 .1 .1 .0
 
 seed-row-requires : tie.Need-seed-row-requires Inv-loop μ-loop
 seed-row-requires c κs =
@@ -87,7 +82,7 @@ seed-row-requires c κs =
       s .pre .0,
       (
         s .pre .1 .0,
-        (long-at at, (s .pre .1 .1 .1 .0, ((at .loop .inv .0, omega arith, place .0 .1), (at .loop .inv .3, place .1)))),
+        (at .loop .inv .4, (s .pre .1 .1 .1 .0, ((at .loop .inv .0, omega arith, place .0 .1), (at .loop .inv .3, place .1)))),
       ),
     )
 
@@ -106,8 +101,8 @@ loop-again c =
     let row = c .before .before .seed-row in
     let at = c .before .before .before .before .before in
     let test = c .before .before .before .before .loop-test .taken in
-    let same = row .kept .1 .1 .1 .1 .1 .0 in
-    (omega arith, omega arith, same ∙ at .loop .inv .2, row .ensures)
+    let same = row .kept .1 .1 .1 .1 .1 .1 .0 in
+    (omega arith, omega arith, same ∙ at .loop .inv .2, row .ensures .0, row .ensures .1)
 
 -- the last row ends the sheet
 last-row : (c : tie.At-loop Inv-loop μ-loop) →
@@ -135,19 +130,19 @@ edge-words-requires-2 c κs =
     let shaped = s .pre .1 .1 .1 .1 .1 .1 in
     let wide = s .pre .1 .1 .1 .1 .0 .1 in (
       len,
-      (s .pre .1 .0, (long-at at, (s .pre .1 .1 .1 .0, ((omega (arith, last-row at), omega arith), (at .loop .inv .3, shaped))))),
+      (s .pre .1 .0, (at .loop .inv .4, (s .pre .1 .1 .1 .0, ((omega (arith, last-row at), omega arith), (at .loop .inv .3, shaped))))),
     )
 
 same-length : tie.Need-same-length Inv-loop μ-loop
 same-length c =
     let last = c .before .before .edge-words2 in
     let at = c .before .before .before .before .before in
-    last .kept .1 .1 .1 .1 .1 .0 ∙ kept at
+    last .kept .1 .1 .1 .1 .1 .1 .0 ∙ kept at
 
 returns : tie.Need-returns Inv-loop μ-loop
 returns c =
     let len = start (c .before .before .before .before .before) .pre .0 in
-    λ i h. c .before .before .edge-words2 .ensures i (omega arith)
+    λ i h. c .before .before .edge-words2 .ensures .0 i (omega arith)
 
 pub seed-rows-spec : {M : Type 1} → statement M
 seed-rows-spec =

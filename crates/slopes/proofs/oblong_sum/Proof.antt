@@ -1,5 +1,4 @@
 use mathlib.Core.Path.{_∙_}
-use Rattle.grid_laws.proofs.Neighbours.{inner-neighbour}
 use Rattle.slopes.proofs.Drops.{marked-by, marked-is}
 use borrow.Author.Needs.{needs}
 use Rattle.slopes.proofs.oblong_sum.Statement.{statement}
@@ -32,9 +31,8 @@ returns c =
     let g = s .args .g in
     let e = s .args .elevations .now in
     let i = s .args .cell in
-    let r = s .pre .1 .1 .1 .0 in
     marked-by _ _ (o .own-key .ensures .0) (k .keys-of .ensures .0) (st .steepest-oblong .ensures) (c .unless-void .ensures)
-    ∙ marked-is g e i (k .keys-of .ensures .1) (λ p h. inner-neighbour g i p h (r .0) (r .1) (r .2) (r .3) .1) (o .own-key .ensures .1)
+    ∙ marked-is g e i (k .keys-of .ensures .1) (o .own-key .ensures .1)
 
 pub oblong-sum-spec : {M : Type 1} → statement M
 oblong-sum-spec =

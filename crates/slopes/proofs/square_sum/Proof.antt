@@ -1,5 +1,4 @@
 use mathlib.Core.Path.{_∙_}
-use Rattle.grid_laws.proofs.Neighbours.{inner-neighbour}
 use Rattle.slopes.proofs.Drops.{marked-by, square-marked}
 use borrow.Author.Needs.{needs}
 use Rattle.slopes.proofs.square_sum.Statement.{statement}
@@ -26,10 +25,9 @@ returns c =
     let g = s .args .g in
     let e = s .args .elevations .now in
     let i = s .args .cell in
-    let r = s .pre .1 .1 .1 .0 in
     marked-by 1 1 (o .own-key .ensures .0) (k .keys-of .ensures .0) (st .steepest-square .ensures) (c .unless-void .ensures)
     ∙ square-marked g e i (s .pre .1 .1 .1 .1 .1 .0) (s .pre .1 .1 .1 .1 .1 .1 .width-low) (k .keys-of .ensures .1)
-    (λ p h. inner-neighbour g i p h (r .0) (r .1) (r .2) (r .3) .1) (o .own-key .ensures .1)
+    (o .own-key .ensures .1)
 
 pub square-sum-spec : {M : Type 1} → statement M
 square-sum-spec =
