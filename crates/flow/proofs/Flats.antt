@@ -3,7 +3,8 @@ use mathlib.Core.Path.{_≡_, refl, sym, _∙_, ap, subst}
 use mathlib.Core.Bool.{Bool, true, false, cond, _&&_, _||_}
 use mathlib.Core.Logic.{inl, inr, ⊎-elim}
 use mathlib.Core.List.{List}
-use Prim.Native.Nat.{ℕ, suc, _+_, _-_, _≤_, _<_}
+use Prim.Native.Nat.{ℕ, suc, _+_, _-_, _%_, _≤_, _<_}
+use native.Mathlib.Nat.{mod-eq-of-lt}
 use native.Mathlib.Omega.{arith}
 use native.Mathlib.Decide.{ℕ-discrete}
 use lib.Dec.{eqb, ltb}
@@ -32,11 +33,11 @@ use Rattle.levels.proofs.Keyed.{height-data, key-read, data-known}
 use Rattle.flow.specs.Coding.{CodesTo}
 
 -- ---- two words: one is one level below the other, where it is from `low` on below it
-module _ (near low word : ℕ) (high : 256 ≤ word) (one : word ≡ 256 → low ≡ 1) (more : 256 < word → low + 1 ≡ word) where
+module _ (near low word : ℕ) (high : 257 ≤ word) (one : word ≡ 257 → low ≡ 1) (more : 257 < word → low + 1 ≡ word) where
   pub below : low ≤ near → near < word → (near ≡ voidWord → ⊥) → (suc (wordLevel near) ≡ wordLevel word) × (0 < wordLevel near)
-  below h l f = go (ℕ-discrete word 256)
+  below h l f = go (ℕ-discrete word 257)
     where
-      go : Dec (word ≡ 256) → (suc (wordLevel near) ≡ wordLevel word) × (0 < wordLevel near)
+      go : Dec (word ≡ 257) → (suc (wordLevel near) ≡ wordLevel word) × (0 < wordLevel near)
       go (yes w) =
           let o = one w in
           let a = level-one near (omega arith) (omega arith) in
@@ -49,12 +50,12 @@ module _ (near low word : ℕ) (high : 256 ≤ word) (one : word ≡ 256 → low
           (omega arith, omega arith)
 
   pub below-range : suc (wordLevel near) ≡ wordLevel word → 0 < wordLevel near → (low ≤ near) × (near < word)
-  below-range q s = go (ℕ-discrete word 256) (word-cases near)
+  below-range q s = go (ℕ-discrete word 257) (word-cases near)
     where
-      b : wordLevel word ≡ word - 254
+      b : wordLevel word ≡ word - 255
       b = level-more word high
 
-      go : Dec (word ≡ 256) → WordCases near → (low ≤ near) × (near < word)
+      go : Dec (word ≡ 257) → WordCases near → (low ≤ near) × (near < word)
       go d (inl (z, l)) = let x : ⊥ = omega arith in absurd x
       go (yes w) (inr (inl (z, l, v))) = let o = one w in (omega arith, omega arith)
       go (no w) (inr (inl (z, l, v))) = let c = b in let x : ⊥ = w (omega arith) in absurd x
@@ -167,17 +168,25 @@ module _ (g : Grid) (e : List ℤ) (len : length e ≡ size g) (work : List ℕ)
   own-read = at-table (size g) (levelIn (size g) work) cell 0 on ∙ ap wordLevel (getD-take (size g) work cell 0 on)
 
   -- at level 0 it is the word
-  pub low-code : 0 < getD work cell 0 → getD work cell 0 < voidWord → getD work cell 0 ≡ directionAt g e (levelsIn g work) cell
+  low-code : 0 < getD work cell 0 → getD work cell 0 < voidWord → getD work cell 0 ≡ directionAt g e (levelsIn g work) cell
   low-code some h =
       let one = own-read ∙ level-one (getD work cell 0) some h in
       let zero-level : isLevelZero g e cell ≡ true = L .certified .one-is cell on one in
       sym (getD-take (size g) work cell 0 on) ∙ L .coded cell on zero-level ∙ sym (zero-code-any g e cell zero-level (levelsIn g work))
 
   -- "A void has code 0"
-  pub no-code : getD work cell 0 ≡ voidWord → 0 ≡ directionAt g e (levelsIn g work) cell
+  no-code : getD work cell 0 ≡ voidWord → 0 ≡ directionAt g e (levelsIn g work) cell
   no-code q = sym (void-code g e (levelsIn g work) cell (L .voids cell on .1 (getD-take (size g) work cell 0 on ∙ q)))
 
-  module _ (h : 256 ≤ getD work cell 0) where
+  -- so without a level above 0 it is the word's last byte
+  pub byte-code : 0 < getD work cell 0 → getD work cell 0 < 257 → getD work cell 0 % 256 ≡ directionAt g e (levelsIn g work) cell
+  byte-code some h = go (ℕ-discrete (getD work cell 0) voidWord)
+    where
+      go : Dec (getD work cell 0 ≡ voidWord) → getD work cell 0 % 256 ≡ directionAt g e (levelsIn g work) cell
+      go (yes q) = ap (λ (w : ℕ). w % 256) q ∙ no-code q
+      go (no f) = let k : getD work cell 0 < voidWord = omega arith in mod-eq-of-lt k ∙ low-code some k
+
+  module _ (h : 257 ≤ getD work cell 0) where
     has-level : 1 < getD (levelsIn g work) cell 0
     has-level = let a = own-read in let b = level-more (getD work cell 0) h in omega arith
 

@@ -9,7 +9,7 @@ ghost use mathlib.Core.Path.{_≡_};
 ghost use mathlib.Core.Bool.{true, false, cond};
 ghost use Prim.Native.Nat.{ℕ, suc, _+_, _*_, _/_, _%_, _<_, _≤_, _^_};
 ghost use lib.Dec.{eqb};
-ghost use lib.ListN.{length, getD};
+ghost use lib.ListN.{length, getD, set};
 ghost use Rattle.grid.specs.Below.{table as table', firstBelow};
 ghost use Rattle.grid.specs.Sheet.{size, at, isData, codeAt};
 ghost use Rattle.grid.specs.Directions.{directionAt, directions, flatSum, firstUnlevelled};
@@ -24,7 +24,7 @@ ghost use Rattle.flow.specs.Seeding.{WordsTo, SumsIn, MarksIn};
 ghost use Rattle.flow.specs.Coding.{NoneLacks, CodesTo};
 
 // The word of any cell before the search: an outlet's code, the choice among the largest drops of another data cell, which is 0 for a cell
-// of a flat, and 255 for a void, which is no code. The marks of voids stand in the work buffer from `base` on.
+// of a flat, and 256 for a void, which is no code. The marks of voids stand in the work buffer from `base` on.
 fn edge_word(
     g: Grid,
     elevations: &[i16],
@@ -43,7 +43,7 @@ fn edge_word(
     ensures { λ r. ⌜ r ≡ firstWord g (now (elevations .entry)) cell ⌝ }
 {
     if key_at(elevations, cell) == 0 {
-        return 255;
+        return 256;
     }
     let code = cells::outlet_code(g, elevations, cell, base, work);
     if code != 0 {
@@ -52,30 +52,31 @@ fn edge_word(
     choice_table::choose(table, slopes::edge_sum(g, elevations, cell) as usize) as u32
 }
 
-// The word of a cell within the border from its sum, which is 256 near a void.
-fn inner_word(
+// Puts the word of a cell within the border in the place of its sum, which is 256 near a void. The marks are lent on only there, so that the
+// loop over cells far from voids keeps its registers.
+fn set_inner_word(
     g: Grid,
     elevations: &[i16],
     table: &[u8; 256],
-    cell: usize,
-    sum: u32,
     base: usize,
-    work: &[u32],
-) -> u32
+    cell: usize,
+    work: &mut [u32],
+)
     requires { ⌜ length (now elevations) ≡ size g ⌝ }
     requires { ⌜ size g < 2 ^ 24 ⌝ }
+    requires { ⌜ MarksIn g (now elevations) base (now work) ⌝ }
     requires { ⌜ cell < size g ⌝ }
     requires { ⌜ now table ≡ choices' ⌝ }
-    requires { ⌜ sum ≡ innerSum g (now elevations) cell ⌝ }
+    requires { ⌜ getD (now work) cell 0 ≡ innerSum g (now elevations) cell ⌝ }
     requires { ⌜ Shaped g ⌝ }
-    requires { ⌜ base + size g ≤ length (now work) ⌝ }
-    requires { ⌜ Marked g (now elevations) base (now work) ⌝ }
-    ensures { λ r. ⌜ r ≡ firstWord g (now (elevations .entry)) cell ⌝ }
+    ensures { λ _. ⌜ now (work .exit) ≡ set (now (work .entry)) cell (firstWord g (now (elevations .entry)) cell) ⌝ }
 {
+    let sum = work[cell];
     if sum < 256 {
-        return choice_table::choose(table, sum as usize) as u32;
+        work[cell] = choice_table::choose(table, sum as usize) as u32;
+        return;
     }
-    edge_word(g, elevations, table, cell, base, work)
+    work[cell] = edge_word(g, elevations, table, cell, base, work);
 }
 
 // Goes on with words for the cells from `from` to `to`, whose sums stand in their places.
@@ -101,7 +102,7 @@ fn inner_words(
 {
     let mut cell = from;
     while cell < to {
-        work[cell] = inner_word(g, elevations, table, cell, work[cell], base, work);
+        set_inner_word(g, elevations, table, base, cell, work);
         cell += 1;
     }
 }
@@ -237,11 +238,11 @@ fn first_without(n: usize, work: &[u32]) -> usize
 
 // The lowest word of the level below that of `word`.
 fn lowest_below(word: u32) -> u32
-    requires { ⌜ 256 ≤ word ⌝ }
-    ensures { λ r. ⌜ (word ≡ 256 → r ≡ 1) ⌝ }
-    ensures { λ r. ⌜ (256 < word → r + 1 ≡ word) ⌝ }
+    requires { ⌜ 257 ≤ word ⌝ }
+    ensures { λ r. ⌜ (word ≡ 257 → r ≡ 1) ⌝ }
+    ensures { λ r. ⌜ (257 < word → r + 1 ≡ word) ⌝ }
 {
-    if word == 256 {
+    if word == 257 {
         return 1;
     }
     word - 1
@@ -253,10 +254,10 @@ fn is_below(elevations: &[i16], work: &[u32], k: u32, low: u32, word: u32, m: us
     requires { ⌜ length (now elevations) ≤ length (now work) ⌝ }
     requires { ⌜ m < length (now elevations) ⌝ }
     requires { ⌜ 0 < k ⌝ }
-    requires { ⌜ 256 ≤ word ⌝ }
-    requires { ⌜ (word ≡ 256 → low ≡ 1) ⌝ }
-    requires { ⌜ (256 < word → low + 1 ≡ word) ⌝ }
-    requires { ⌜ (isData (now elevations) m ≡ true → getD (now work) m 0 ≡ 255 → ⊥) ⌝ }
+    requires { ⌜ 257 ≤ word ⌝ }
+    requires { ⌜ (word ≡ 257 → low ≡ 1) ⌝ }
+    requires { ⌜ (257 < word → low + 1 ≡ word) ⌝ }
+    requires { ⌜ (isData (now elevations) m ≡ true → getD (now work) m 0 ≡ 256 → ⊥) ⌝ }
     ensures { λ r. ⌜ (r ≡ true → (at (now (elevations .entry)) m ≡ levelOf k)
         × ((suc (wordLevel (getD (now (work .entry)) m 0)) ≡ wordLevel word) × (0 < wordLevel (getD (now (work .entry)) m 0)))) ⌝ }
     ensures { λ r. ⌜ (r ≡ false → at (now (elevations .entry)) m ≡ levelOf k
@@ -277,10 +278,10 @@ fn is_below(elevations: &[i16], work: &[u32], k: u32, low: u32, word: u32, m: us
 fn is_below_any(elevations: &[i16], work: &[u32], k: u32, low: u32, word: u32, m: usize) -> bool
     requires { ⌜ length (now elevations) ≤ length (now work) ⌝ }
     requires { ⌜ 0 < k ⌝ }
-    requires { ⌜ 256 ≤ word ⌝ }
-    requires { ⌜ (word ≡ 256 → low ≡ 1) ⌝ }
-    requires { ⌜ (256 < word → low + 1 ≡ word) ⌝ }
-    requires { ⌜ (isData (now elevations) m ≡ true → getD (now work) m 0 ≡ 255 → ⊥) ⌝ }
+    requires { ⌜ 257 ≤ word ⌝ }
+    requires { ⌜ (word ≡ 257 → low ≡ 1) ⌝ }
+    requires { ⌜ (257 < word → low + 1 ≡ word) ⌝ }
+    requires { ⌜ (isData (now elevations) m ≡ true → getD (now work) m 0 ≡ 256 → ⊥) ⌝ }
     ensures { λ r. ⌜ (r ≡ true → (at (now (elevations .entry)) m ≡ levelOf k)
         × ((suc (wordLevel (getD (now (work .entry)) m 0)) ≡ wordLevel word) × (0 < wordLevel (getD (now (work .entry)) m 0)))) ⌝ }
     ensures { λ r. ⌜ (r ≡ false → at (now (elevations .entry)) m ≡ levelOf k
@@ -324,8 +325,8 @@ fn flat_sum_inner(
     requires { ⌜ at (now elevations) cell ≡ levelOf k ⌝ }
     requires { ⌜ word ≡ getD (now work) cell 0 ⌝ }
     requires { ⌜ 0 < k ⌝ }
-    requires { ⌜ 256 ≤ word ⌝ }
-    requires { ⌜ (word ≡ 256 → low ≡ 1) × (256 < word → low + 1 ≡ word) ⌝ }
+    requires { ⌜ 257 ≤ word ⌝ }
+    requires { ⌜ (word ≡ 257 → low ≡ 1) × (257 < word → low + 1 ≡ word) ⌝ }
     requires { ⌜ VoidsMarked g (now elevations) (now work) ⌝ }
     requires { ⌜ Inner g (cell / g .cols) (cell % g .cols) ⌝ }
     requires { ⌜ Offsets (g .cols) (now offsets) ⌝ }
@@ -359,8 +360,8 @@ fn flat_sum_border(
     requires { ⌜ at (now elevations) cell ≡ levelOf k ⌝ }
     requires { ⌜ word ≡ getD (now work) cell 0 ⌝ }
     requires { ⌜ 0 < k ⌝ }
-    requires { ⌜ 256 ≤ word ⌝ }
-    requires { ⌜ (word ≡ 256 → low ≡ 1) × (256 < word → low + 1 ≡ word) ⌝ }
+    requires { ⌜ 257 ≤ word ⌝ }
+    requires { ⌜ (word ≡ 257 → low ≡ 1) × (257 < word → low + 1 ≡ word) ⌝ }
     requires { ⌜ VoidsMarked g (now elevations) (now work) ⌝ }
     ensures { λ r. ⌜ r ≡ flatSum g (now (elevations .entry)) (levelsIn g (now (work .entry))) cell ⌝ }
     ensures { λ r. ⌜ r < 256 ⌝ }
@@ -396,11 +397,8 @@ fn inner_code(
     ensures { λ r. ⌜ r ≡ directionAt g (now (elevations .entry)) (levelsIn g (now (work .entry))) cell ⌝ }
 {
     let word = work[cell];
-    if word < 255 {
-        return word as u8;
-    }
-    if word == 255 {
-        return 0;
+    if word < 257 {
+        return (word % 256) as u8; // 0 for a void
     }
     let k = cells::key(elevations[cell]);
     let low = lowest_below(word);
@@ -422,11 +420,8 @@ fn border_code(g: Grid, elevations: &[i16], table: &[u8; 256], work: &[u32], cel
     ensures { λ r. ⌜ r ≡ directionAt g (now (elevations .entry)) (levelsIn g (now (work .entry))) cell ⌝ }
 {
     let word = work[cell];
-    if word < 255 {
-        return word as u8;
-    }
-    if word == 255 {
-        return 0;
+    if word < 257 {
+        return (word % 256) as u8; // 0 for a void
     }
     let k = cells::key(elevations[cell]);
     let low = lowest_below(word);

@@ -115,31 +115,31 @@ module _ (g : Grid) (e : List ℤ) (len : length e ≡ size g) (half : ℕ) (wor
       (hp : p < 8) (same : isEqual g e cell p ≡ true) (one : levelIn (size g) work (neighbour g cell p) ≡ 1) where
     -- the work buffer after it
     abbrev after : List ℕ
-    after = set (set work cell 256) (half + tail) cell
+    after = set (set work cell 257) (half + tail) cell
 
-    two : wordLevel 256 ≡ 2
-    two = level-more 256 (omega arith)
+    two : wordLevel 257 ≡ 2
+    two = level-more 257 (omega arith)
 
     searching′ : Searching g e half after cell 0 (tail + 1)
     searching′ =
-        marked g e len half work (J .searching) hn hl cell (neighbour g cell p) 256 on none
+        marked g e len half work (J .searching) hn hl cell (neighbour g cell p) 257 on none
         (record { from-data = joining-data none; position = p; eight = hp; there = refl; equal = same })
         (omega arith) (two ∙ ap suc (sym one))
         (λ j h. let q = J .twos j h in omega arith)
         (λ i h k. let q = J .twos i k in omega arith)
 
     here : levelIn (size g) after cell ≡ 2
-    here = level-here (size g) half tail cell 256 work hn hl on (joining-room none) ∙ two
+    here = level-here (size g) half tail cell 257 work hn hl on (joining-room none) ∙ two
 
     other : (y : ℕ) → (y ≡ cell → ⊥) → levelIn (size g) after y ≡ levelIn (size g) work y
-    other y f = ap wordLevel (word-other (size g) half tail cell 256 work hn hl on (joining-room none) y f)
+    other y f = ap wordLevel (word-other (size g) half tail cell 257 work hn hl on (joining-room none) y f)
 
     twos′ : (i : ℕ) → i < tail + 1 → levelIn (size g) after (queueIn half after i) ≡ 2
     twos′ i h = ⊎-elim before last (last? tail i h)
       where
         before : i < tail → levelIn (size g) after (queueIn half after i) ≡ 2
         before l =
-            let q = queue-first (size g) half tail cell 256 work hn hl on (joining-room none) i l in
+            let q = queue-first (size g) half tail cell 257 work hn hl on (joining-room none) i l in
             let t = J .twos i l in
             let z : levelIn (size g) work cell ≡ 0 = level-none _ (getD-take (size g) work cell 0 on ∙ none) in
             ap (levelIn (size g) after) q
@@ -147,7 +147,7 @@ module _ (g : Grid) (e : List ℤ) (len : length e ≡ size g) (half : ℕ) (wor
             ∙ t
 
         last : i ≡ tail → levelIn (size g) after (queueIn half after i) ≡ 2
-        last q = rw q (ap (levelIn (size g) after) (queue-last (size g) half tail cell 256 work hn hl on (joining-room none)) ∙ here)
+        last q = rw q (ap (levelIn (size g) after) (queue-last (size g) half tail cell 257 work hn hl on (joining-room none)) ∙ here)
 
     joining-marked : Joining g e half after (cell + 1) (tail + 1)
     joining-marked =
@@ -166,5 +166,5 @@ module _ (g : Grid) (e : List ℤ) (len : length e ≡ size g) (half : ℕ) (wor
 
   pub joining-next : {found r : ℕ} {work′ : List ℕ} → Looked g e work cell 8 found → found < 8
       → size g ≤ half → half + size g ≤ length work → getD work cell 0 ≡ 0
-      → r ≡ tail + 1 → work′ ≡ set (set work cell 256) (half + tail) cell → Joining g e half work′ (cell + 1) r
+      → r ≡ tail + 1 → work′ ≡ set (set work cell 257) (half + tail) cell → Joining g e half work′ (cell + 1) r
   joining-next {found} L h hn hl none q s = rw (q, s) (joining-marked hn hl none found h (L .0 h .0) (L .0 h .1))

@@ -74,7 +74,7 @@ looked-none g e work cell = ((λ h. let z : ⊥ = omega arith in absurd z), λ h
 
 module _ (g : Grid) (e : List ℤ) (len : length e ≡ size g) (work : List ℕ) (cell k : ℕ) (own : at e cell ≡ levelOf k) (some : 0 < k)
     (p m : ℕ) (there : m ≡ neighbour g cell p) where
-  zero-found : (at e m ≡ levelOf k) × ((0 < getD work m 0) × (getD work m 0 < 255))
+  zero-found : (at e m ≡ levelOf k) × ((0 < getD work m 0) × (getD work m 0 < 256))
       → (isEqual g e cell p ≡ true) × (levelIn (size g) work (neighbour g cell p) ≡ 1)
   zero-found (h, (a, b)) =
       let d : isData e m ≡ true = height-data e m k h some in
@@ -84,7 +84,7 @@ module _ (g : Grid) (e : List ℤ) (len : length e ≡ size g) (work : List ℕ)
       let same = subst (λ (x : ℕ). at e x ≡ at e cell) there (h ∙ sym own) in
       (is-equal g e cell p d′ same, subst (λ (x : ℕ). levelIn (size g) work x ≡ 1) there l)
 
-  zero-missing : (at e m ≡ levelOf k → 0 < getD work m 0 → 255 ≤ getD work m 0) → isEqual g e cell p ≡ true
+  zero-missing : (at e m ≡ levelOf k → 0 < getD work m 0 → 256 ≤ getD work m 0) → isEqual g e cell p ≡ true
       → levelIn (size g) work (neighbour g cell p) ≡ 1 → ⊥
   zero-missing f t l =
       let on = equal-on-sheet g e len cell p t in
@@ -98,8 +98,8 @@ module _ (g : Grid) (e : List ℤ) (len : length e ≡ size g) (work : List ℕ)
 
   -- one position more: r says whether the neighbour there is one
   pub looked-more : (found next : ℕ) (r : Bool) → p < 8 → Looked g e work cell p found
-      → (r ≡ true → (at e m ≡ levelOf k) × ((0 < getD work m 0) × (getD work m 0 < 255)))
-      → (r ≡ false → at e m ≡ levelOf k → 0 < getD work m 0 → 255 ≤ getD work m 0)
+      → (r ≡ true → (at e m ≡ levelOf k) × ((0 < getD work m 0) × (getD work m 0 < 256)))
+      → (r ≡ false → at e m ≡ levelOf k → 0 < getD work m 0 → 256 ≤ getD work m 0)
       → next ≡ cond r p found → Looked g e work cell (p + 1) next
   looked-more found next true hp L t f q = rw q ((λ h. zero-found (t refl)), λ h. let z : ⊥ = omega arith in absurd z)
   looked-more found next false hp L t f q =

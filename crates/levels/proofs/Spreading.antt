@@ -27,7 +27,7 @@ use Rattle.levels.proofs.Within.{other-flat, flat-within, flat-alike}
 pub record Reading (g : Grid) (e : List ℤ) (half : ℕ) (work : List ℕ) (head tail first : ℕ) : Type 0 where
   pub few : head < size g
   pub on : first < size g
-  pub low : getD work first 0 < size g + 256
+  pub low : getD work first 0 < size g + 257
   pub spreading : Spreading g e half work head tail first (getD work first 0 + 1) 0
 
 pub reading : (g : Grid) (e : List ℤ) → length e ≡ size g → (half : ℕ) (work : List ℕ) (head tail : ℕ)

@@ -255,9 +255,9 @@ fn is_zero_at(elevations: &[i16], k: u32, m: usize, work: &[u32]) -> bool
     requires { ⌜ m < length (now elevations) ⌝ }
     requires { ⌜ 0 < k ⌝ }
     ensures { λ r. ⌜ (r ≡ true → (at (now (elevations .entry)) m ≡ levelOf k)
-        × ((0 < getD (now (work .entry)) m 0) × (getD (now (work .entry)) m 0 < 255))) ⌝ }
+        × ((0 < getD (now (work .entry)) m 0) × (getD (now (work .entry)) m 0 < 256))) ⌝ }
     ensures { λ r. ⌜ (r ≡ false → at (now (elevations .entry)) m ≡ levelOf k → 0 < getD (now (work .entry)) m 0
-        → 255 ≤ getD (now (work .entry)) m 0) ⌝ }
+        → 256 ≤ getD (now (work .entry)) m 0) ⌝ }
 {
     let own = key(elevations[m]);
     let word = work[m];
@@ -267,7 +267,7 @@ fn is_zero_at(elevations: &[i16], k: u32, m: usize, work: &[u32]) -> bool
     if word == 0 {
         return false;
     }
-    if word >= 255 {
+    if word >= 256 {
         return false;
     }
     true
@@ -278,9 +278,9 @@ fn is_zero_any(elevations: &[i16], k: u32, m: usize, work: &[u32]) -> bool
     requires { ⌜ length (now elevations) ≤ length (now work) ⌝ }
     requires { ⌜ 0 < k ⌝ }
     ensures { λ r. ⌜ (r ≡ true → (at (now (elevations .entry)) m ≡ levelOf k)
-        × ((0 < getD (now (work .entry)) m 0) × (getD (now (work .entry)) m 0 < 255))) ⌝ }
+        × ((0 < getD (now (work .entry)) m 0) × (getD (now (work .entry)) m 0 < 256))) ⌝ }
     ensures { λ r. ⌜ (r ≡ false → at (now (elevations .entry)) m ≡ levelOf k → 0 < getD (now (work .entry)) m 0
-        → 255 ≤ getD (now (work .entry)) m 0) ⌝ }
+        → 256 ≤ getD (now (work .entry)) m 0) ⌝ }
 {
     if m >= elevations.len() {
         return false;
@@ -369,7 +369,7 @@ fn join_inner(
     if zero_inner(g, offsets, elevations, cell, k, work) >= 8 {
         return tail;
     }
-    queue::put(half, tail, cell, cell, 256, work)
+    queue::put(half, tail, cell, cell, 257, work)
 }
 
 // The same for any cell.
@@ -396,7 +396,7 @@ fn join_border(
     if zero_border(g, elevations, cell, k, work) >= 8 {
         return tail;
     }
-    queue::put(half, tail, cell, cell, 256, work)
+    queue::put(half, tail, cell, cell, 257, work)
 }
 
 // Goes on from `first` cells of level 1 over the cells from `from` to `to`, which lie within the border; how many there are then.

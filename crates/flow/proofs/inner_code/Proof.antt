@@ -3,7 +3,7 @@ use Prim.Native.Nat.{_≤_}
 use native.Mathlib.Omega.{arith}
 use lib.ListN.{getD}
 use borrow.Author.Needs.{needs, sfits-of}
-use Rattle.flow.proofs.Flats.{low-code, no-code, high-key, high-code}
+use Rattle.flow.proofs.Flats.{byte-code, high-key, high-code}
 use Rattle.flow.proofs.inner_code.Statement.{statement}
 use Rattle.flow.proofs.inner_code.Tie as tie
 
@@ -20,15 +20,8 @@ returns : tie.Need-returns
 returns c =
     let s = c .before .before .before in
     let a = s .args in
-    low-code (a .g) (a .elevations .now) (s .pre .0) (a .work .now) (s .pre .1 .1 .1 .1 .1 .0) (a .cell) (s .pre .1 .1 .1 .1 .0)
+    byte-code (a .g) (a .elevations .now) (s .pre .0) (a .work .now) (s .pre .1 .1 .1 .1 .1 .0) (a .cell) (s .pre .1 .1 .1 .1 .0)
     (s .pre .1 .1 .1 .1 .1 .1 .0) (c .if1 .taken)
-
-returns-2 : tie.Need-returns-2
-returns-2 c =
-    let s = c .before .before .before .before in
-    let a = s .args in
-    no-code (a .g) (a .elevations .now) (s .pre .0) (a .work .now) (s .pre .1 .1 .1 .1 .1 .0) (a .cell) (s .pre .1 .1 .1 .1 .0)
-    (c .if2 .taken)
 
 mul-key : tie.Need-mul-key
 mul-key c = search needs
@@ -39,15 +32,12 @@ shared-slice-copy-out-key c = search needs
 key-requires : tie.Need-key-requires
 key-requires c κs = search needs
 
-abbrev start : tie.Else2 → tie.Start
-start c = c .before .before .before .before
+abbrev start : tie.Else1 → tie.Start
+start c = c .before .before .before
 
 -- a word that is neither a code nor a void's has a level above 0
-high : (c : tie.Else2) → 256 ≤ getD (start c .args .work .now) (start c .args .cell) 0
-high c =
-    let no-code = c .before .if1 .left in
-    let no-void = c .if2 .left in
-    omega arith
+high : (c : tie.Else1) → 257 ≤ getD (start c .args .work .now) (start c .args .cell) 0
+high c = let past = c .if1 .left in omega arith
 
 lowest-below-requires : tie.Need-lowest-below-requires
 lowest-below-requires c κs = high (c .before .before)
@@ -73,8 +63,8 @@ flat-sum-inner-requires c κs =
 choose-requires : tie.Need-choose-requires
 choose-requires c κs = search needs
 
-returns-3 : tie.Need-returns-3
-returns-3 c =
+returns-2 : tie.Need-returns-2
+returns-2 c =
     let sum = c .before in
     let flat = sum .before .before .before .before in
     let s = start flat in
@@ -90,11 +80,10 @@ inner-code-spec =
     shared-slice-read-word
     cast-result
     returns
-    returns-2
     mul-key
     shared-slice-copy-out-key
     key-requires
     lowest-below-requires
     flat-sum-inner-requires
     choose-requires
-    returns-3)
+    returns-2)
