@@ -8,7 +8,6 @@ use native.Mathlib.Omega.{arith}
 use lib.ListN.{length, getD}
 use lib.IntN.{ℤ}
 use Rattle.grid.specs.declared.Grid.{Grid}
-use Rattle.grid.specs.Below.{has}
 use Rattle.grid.specs.Sheet.{size, isData, neighbour, SixteenBits}
 use Rattle.grid.specs.Outlet.{isGap, leavesAt, isOutlet}
 use Rattle.grid.specs.Fill.{filled}

@@ -6,7 +6,7 @@ use mathlib.Core.List.{List}
 use Prim.Native.Nat.{ℕ, _+_, _≤_, _<_}
 use native.Mathlib.Omega.{arith}
 use native.Mathlib.Decide.{ℕ-discrete, decLt}
-use lib.ListN.{length, getD, set, List·getD-eq-default, length-set}
+use lib.ListN.{length, getD, set, List·getD-eq-default}
 use lib.Seq.{getD-set-same, getD-set-other}
 use lib.IntN.{ℤ}
 use lib.Signed.{_≤ℤ_}
@@ -17,7 +17,7 @@ use Rattle.grid.specs.Below.{countBelow}
 use Rattle.grid.specs.Sheet.{size, void, at, isData, neighbour}
 use Rattle.grid.specs.Joined.{joined}
 use Rattle.grid.specs.Outlet.{isOpen, isVoid, onOpenSide, outside, isOutside}
-use Rattle.grid_laws.proofs.Tests.{test, true-false, not-true-false, and-true, and-left, and-right, and-false-left, same-test, cond-true}
+use Rattle.grid_laws.proofs.Tests.{test, true-false, not-true-false, and-true, and-left, and-right, same-test, cond-true}
 use Rattle.grid_laws.proofs.Tests.{cond-false}
 use Rattle.grid_laws.proofs.Below.{at-table, any-of, some-of-any, count-find}
 use Rattle.grid_laws.proofs.Neighbours.{at-eight}

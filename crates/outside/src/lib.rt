@@ -30,7 +30,7 @@ pub fn has_void(elevations: &[i16]) -> bool
     let mut low: u16 = 65535;
     let mut cell: usize = 0;
     while cell < elevations.len() {
-        low = lower(low, cells::short_key(elevations[cell]));
+        low = lower(low, cells::short_key_at(elevations, cell));
         cell += 1;
     }
     low == 0
@@ -55,7 +55,7 @@ fn mark_voids(elevations: &[i16], base: usize, work: &mut [u32])
 {
     let mut cell: usize = 0;
     while cell < elevations.len() {
-        work[base + cell] = void_mark(cells::short_key(elevations[cell]));
+        work[base + cell] = void_mark(cells::short_key_at(elevations, cell));
         cell += 1;
     }
 }

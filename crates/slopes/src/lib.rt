@@ -8,8 +8,7 @@ ghost use mathlib.Core.Path.{_≡_};
 ghost use mathlib.Core.Bool.{cond};
 ghost use Prim.Native.Nat.{ℕ, _+_, _-_, _*_, _/_, _%_, _<_, _≤_, _^_};
 ghost use lib.ListN.{length};
-ghost use lib.Signed.{_≤ℤ_};
-ghost use Rattle.grid.specs.Sheet.{size, void, at};
+ghost use Rattle.grid.specs.Sheet.{size, at};
 ghost use Rattle.grid.specs.Directions.{steepestSum};
 ghost use Rattle.cells.specs.Around.{KnownTo};
 ghost use Rattle.cells.specs.Keys.{keyOf};
@@ -249,18 +248,8 @@ fn keys_of(g: Grid, offsets: &[usize; 8], elevations: &[i16], cell: usize) -> [u
     keys
 }
 
-// A cell's key.
-fn own_key(elevations: &[i16], cell: usize) -> u16
-    requires { ⌜ cell < length (now elevations) ⌝ }
-    requires { ⌜ cell < 2 ^ 24 ⌝ }
-    ensures { λ r. ⌜ r ≡ keyOf (at (now (elevations .entry)) cell) ⌝ }
-    ensures { λ r. ⌜ void ≤ℤ at (now (elevations .entry)) cell ⌝ }
-{
-    cells::short_key(elevations[cell])
-}
-
 // For a cell within the border: "If the largest weighted drop is above 0, add the codes of all neighbours that have it", 0 where it is
-// not; 256 for an outlet and for a void. For square cells:
+// not; 256 near a void, where the rule of outlets is asked for. For square cells:
 fn square_sum(g: Grid, offsets: &[usize; 8], elevations: &[i16], cell: usize) -> u16
     requires { ⌜ length (now elevations) ≡ size g ⌝ }
     requires { ⌜ size g < 2 ^ 24 ⌝ }
@@ -272,7 +261,7 @@ fn square_sum(g: Grid, offsets: &[usize; 8], elevations: &[i16], cell: usize) ->
     ensures { λ r. ⌜ r ≡ innerSum g (now (elevations .entry)) cell ⌝ }
 {
     let keys = keys_of(g, offsets, elevations, cell);
-    let own = own_key(elevations, cell);
+    let own = cells::short_key_at(elevations, cell);
     let sum = steepest_square(own, &keys);
     unless_void(own, &keys, sum)
 }
@@ -288,7 +277,7 @@ fn oblong_sum(g: Grid, offsets: &[usize; 8], elevations: &[i16], cell: usize) ->
     ensures { λ r. ⌜ r ≡ innerSum g (now (elevations .entry)) cell ⌝ }
 {
     let keys = keys_of(g, offsets, elevations, cell);
-    let own = own_key(elevations, cell);
+    let own = cells::short_key_at(elevations, cell);
     let sum = steepest_oblong(g.width as u32, g.height as u32, own, &keys);
     unless_void(own, &keys, sum)
 }

@@ -1,4 +1,3 @@
-use mathlib.Core.Path.{_≡_}
 use borrow.Author.Tests.{not-true}
 use Rattle.grid_laws.proofs.Tests.{true-false}
 use mathlib.Core.Path.{refl}

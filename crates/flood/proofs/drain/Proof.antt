@@ -9,9 +9,6 @@ use Rattle.flood_laws.specs.Flood.{During}
 use Rattle.flood_laws.proofs.Steps.{during-most}
 use Rattle.flood.proofs.drain.Statement.{statement}
 use Rattle.flood.proofs.drain.Tie as tie
-use Rattle.flood.proofs.drain.Reads as reads
-use Rattle.flood.proofs.drain.Lts as lts
-use Rattle.flood.proofs.spread.Reads as spread-reads
 
 abbrev Inv-loop : tie.InvT-loop
 Inv-loop g half k v start len offsets work₀ head₀ tail₀ work head tail =

@@ -9,10 +9,6 @@ use Rattle.flood_laws.specs.Packed.{frontOf, backOf}
 use Rattle.flood_laws.proofs.Steps.{between-none}
 use Rattle.flood.proofs.flood.Statement.{statement}
 use Rattle.flood.proofs.flood.Tie as tie
-use Rattle.flood.proofs.flood.Reads as reads
-use Rattle.flood.proofs.flood.Lts as lts
-use Rattle.cells.proofs.offsets.Reads as offsets-reads
-use Rattle.flood.proofs.visit.Reads as visit-reads
 
 abbrev Inv-loop : tie.InvT-loop
 Inv-loop g half work₀ n offsets len₀ k₀ work len k =

@@ -5,11 +5,6 @@ use Rattle.grid_laws.proofs.Neighbours.{cols-positive}
 use borrow.Author.Needs.{needs}
 use Rattle.flood.proofs.is_opening.Statement.{statement}
 use Rattle.flood.proofs.is_opening.Tie as tie
-use Rattle.flood.proofs.is_opening.Reads as reads
-use Rattle.flood.proofs.is_opening.Lts as lts
-use Rattle.cells.proofs.is_inner.Reads as is-inner-reads
-use Rattle.flood.proofs.opening_border.Reads as opening-border-reads
-use Rattle.flood.proofs.opening_inner.Reads as opening-inner-reads
 
 div-is-inner : tie.Need-div-is-inner
 div-is-inner c = let s = c .before in cols-positive (s .args .g) (s .args .c) (s .pre .1 .1 .1 .0 .0)

@@ -3,8 +3,6 @@ use Rattle.flood.proofs.Halves.{opens-void, opens-not, opens-reached}
 use borrow.Author.Needs.{needs}
 use Rattle.flood.proofs.opens.Statement.{statement}
 use Rattle.flood.proofs.opens.Tie as tie
-use Rattle.flood.proofs.opens.Reads as reads
-use Rattle.flood.proofs.opens.Lts as lts
 
 mul-word : tie.Need-mul-word
 mul-word c = search needs

@@ -9,10 +9,6 @@ use Rattle.flood_laws.specs.Packed.{frontOf, backOf}
 use Rattle.flood_laws.proofs.Steps.{spread-more, spread-end, during-room}
 use Rattle.flood.proofs.spread_border.Statement.{statement}
 use Rattle.flood.proofs.spread_border.Tie as tie
-use Rattle.flood.proofs.spread_border.Reads as reads
-use Rattle.flood.proofs.spread_border.Lts as lts
-use Rattle.cells.proofs.neighbour.Reads as neighbour-reads
-use Rattle.flood.proofs.touch_any.Reads as touch-any-reads
 
 abbrev Inv-loop : tie.InvT-loop
 Inv-loop g half k v head len x work₀ n tail₀ p₀ work tail p =

@@ -9,10 +9,6 @@ use Rattle.flood_laws.specs.Packed.{frontOf, backOf}
 use Rattle.flood_laws.proofs.Steps.{spread-more, spread-end, during-room}
 use Rattle.flood.proofs.spread_inner.Statement.{statement}
 use Rattle.flood.proofs.spread_inner.Tie as tie
-use Rattle.flood.proofs.spread_inner.Reads as reads
-use Rattle.flood.proofs.spread_inner.Lts as lts
-use Rattle.cells.proofs.beside.Reads as beside-reads
-use Rattle.flood.proofs.touch.Reads as touch-reads
 
 abbrev Inv-loop : tie.InvT-loop
 Inv-loop g half k v head len x offsets work₀ n tail₀ p₀ work tail p =

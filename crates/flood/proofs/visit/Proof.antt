@@ -7,11 +7,6 @@ use borrow.Author.Tests.{not-true, not-false}
 use borrow.Author.Needs.{needs}
 use Rattle.flood.proofs.visit.Statement.{statement}
 use Rattle.flood.proofs.visit.Tie as tie
-use Rattle.flood.proofs.visit.Reads as reads
-use Rattle.flood.proofs.visit.Lts as lts
-use Rattle.flood.proofs.drain.Reads as drain-reads
-use Rattle.flood.proofs.is_opening.Reads as is-opening-reads
-use Rattle.flood.proofs.reach.Reads as reach-reads
 
 mul-n : tie.Need-mul-n
 mul-n c = search needs

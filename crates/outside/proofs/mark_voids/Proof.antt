@@ -1,19 +1,14 @@
 -- Cell after cell gets its mark, and what lies before the marks is left alone.
-use mathlib.Core.Path.{_≡_, refl, sym, _∙_, subst}
+use mathlib.Core.Path.{_≡_, refl, _∙_}
 use mathlib.Core.Bool.{cond}
 use Prim.Native.Nat.{ℕ, _+_, _-_, _≤_, _<_}
 use native.Mathlib.Omega.{arith}
 use lib.ListN.{length, getD, set, length-set}
 use lib.Seq.{getD-set-same, getD-set-other}
-use lib.IntN.{pos}
-use mir.Syntax.{w16}
-use mir.Val.{toZ, ofZ}
-use mir.Facts.{toZ-ofZ}
 use borrow.Author.Count.{below-more}
 use Rattle.grid.specs.Sheet.{isData}
-use Rattle.cells.proofs.Keys.{Known, known-read}
 use Rattle.outside.proofs.Seeds.{void-mark-is}
-use borrow.Author.Needs.{needs, sfits-of}
+use borrow.Author.Needs.{needs}
 use Rattle.outside.proofs.mark_voids.Statement.{statement}
 use Rattle.outside.proofs.mark_voids.Tie as tie
 
@@ -29,26 +24,20 @@ abbrev μ-loop : tie.MeasureT-loop
 loop-holds : tie.Need-loop-holds Inv-loop μ-loop
 loop-holds c = (omega arith, refl, λ i h. let z : ⊥ = omega arith in absurd z, λ i h. refl)
 
-mul-short-key : tie.Need-mul-short-key Inv-loop μ-loop
-mul-short-key c = search needs
-
-shared-slice-copy-out-short-key : tie.Need-shared-slice-copy-out-short-key Inv-loop μ-loop
-shared-slice-copy-out-short-key c = search needs
-
-short-key-requires : tie.Need-short-key-requires Inv-loop μ-loop
-short-key-requires c κs = search needs
+short-key-at-requires : tie.Need-short-key-at-requires Inv-loop μ-loop
+short-key-at-requires c κs = search needs
 
 void-mark-requires : tie.Need-void-mark-requires Inv-loop μ-loop
 void-mark-requires c κs = search needs
 
 -- the mark's place is in the work buffer
 within : (c : tie.After-void-mark Inv-loop μ-loop) →
-    c .before .before .before .before .before .before .args .base + c .before .before .before .before .loop .cell
-    < length (c .before .before .before .before .loop .work)
+    c .before .before .before .before .before .args .base + c .before .before .before .loop .cell
+    < length (c .before .before .before .loop .work)
 within c =
-    let l = c .before .before .before .before in
+    let l = c .before .before .before in
     let room = l .before .before .pre in
-    let h = c .before .before .before .loop-test .taken in
+    let h = c .before .before .loop-test .taken in
     let same = l .loop .inv .1 in
     omega arith
 
@@ -65,22 +54,21 @@ add-cell : tie.Need-add-cell Inv-loop μ-loop
 add-cell c = search needs
 
 loop-less : tie.Need-loop-less Inv-loop μ-loop
-loop-less c = let h = c .before .before .before .loop-test .taken in omega arith
+loop-less c = let h = c .before .before .loop-test .taken in omega arith
 
 loop-again : tie.Need-loop-again Inv-loop μ-loop
 loop-again c =
     let k = c .before in
-    let h = k .before .before .loop-test .taken in
-    let l = k .before .before .before in
+    let h = k .before .loop-test .taken in
+    let l = k .before .before in
     let a = l .before .before .args in
     let e = a .elevations .now in
     let i = l .loop .cell in
     let w = l .loop .work in
     let v = c .void-mark .result in
-    let q : toZ w16 (ofZ w16 (getD e i (pos 0))) ≡ getD e i (pos 0) = toZ-ofZ (sfits-of (k .before .short-key-arg .given)) in
-    let here = known-read e i (k .short-key .result) h (subst (Known (k .short-key .result)) q (k .short-key .ensures)) in
+    let here = k .short-key-at .ensures in
     let value : v ≡ cond (isData e i) 0 1 =
-    void-mark-is e i (k .short-key .result) v (here .0) (here .1 .1 .0) (c .void-mark .ensures .0) (c .void-mark .ensures .1) in (
+    void-mark-is e i (k .short-key-at .result) v (here .0) (here .1) (c .void-mark .ensures .0) (c .void-mark .ensures .1) in (
       omega arith,
       length-set w (a .base + i) v ∙ l .loop .inv .1,
       below-more (λ j. getD (set w (a .base + i) v) (a .base + j) 0 ≡ cond (isData e j) 0 1) i
@@ -106,9 +94,7 @@ mark-voids-spec =
     Inv-loop
     μ-loop
     loop-holds
-    mul-short-key
-    shared-slice-copy-out-short-key
-    short-key-requires
+    short-key-at-requires
     void-mark-requires
     add-work
     mul-work

@@ -1,5 +1,5 @@
 -- Each cell of the side is touched; those before it keep having no mark 1.
-use mathlib.Core.Path.{_≡_, refl, sym, _∙_, ap, subst}
+use mathlib.Core.Path.{_≡_, refl, sym, _∙_, subst}
 use mathlib.Core.Bool.{true}
 use Rattle.grid_laws.proofs.Tests.{true-false}
 use Prim.Native.Nat.{ℕ, _+_, _-_, _*_, _≤_, _<_}
@@ -7,12 +7,11 @@ use native.Mathlib.Omega.{arith}
 use lib.ListN.{length, getD}
 use borrow.Author.Count.{below-more}
 use borrow.Author.Tests.{not-true, not-false}
-use Rattle.grid.specs.declared.Grid.{Grid}
-use Rattle.grid.specs.Sheet.{size, neighbour}
-use Rattle.grid.specs.Outlet.{isOpen, onOpenSide}
+use Rattle.grid.specs.Sheet.{size}
+use Rattle.grid.specs.Outlet.{isOpen}
 use Rattle.join_laws.specs.Search.{Parts}
 use Rattle.join_laws.proofs.Search.{parts-same, queue-room}
-use Rattle.outside.specs.Seeds.{SeedsOn, Side}
+use Rattle.outside.specs.Seeds.{SeedsOn}
 use Rattle.outside.proofs.Seeds.{seeds-here, seeds-then, ones-back, seed-step, side-open}
 use borrow.Author.Needs.{needs}
 use Rattle.outside.proofs.seed_side.Statement.{statement}

@@ -7,8 +7,8 @@ use Rattle.slopes.proofs.oblong_sum.Tie as tie
 keys-of-requires : tie.Need-keys-of-requires
 keys-of-requires c κs = let p = c .pre in (p .0, (p .1 .0, (p .1 .1 .0, (p .1 .1 .1 .0, p .1 .1 .1 .1 .0))))
 
-own-key-requires : tie.Need-own-key-requires
-own-key-requires c κs = search needs
+short-key-at-requires : tie.Need-short-key-at-requires
+short-key-at-requires c κs = search needs
 
 cast-steepest-oblong : tie.Need-cast-steepest-oblong
 cast-steepest-oblong c = search needs
@@ -31,15 +31,15 @@ returns c =
     let g = s .args .g in
     let e = s .args .elevations .now in
     let i = s .args .cell in
-    marked-by _ _ (o .own-key .ensures .0) (k .keys-of .ensures .0) (st .steepest-oblong .ensures) (c .unless-void .ensures)
-    ∙ marked-is g e i (k .keys-of .ensures .1) (o .own-key .ensures .1)
+    marked-by _ _ (o .short-key-at .ensures .0) (k .keys-of .ensures .0) (st .steepest-oblong .ensures) (c .unless-void .ensures)
+    ∙ marked-is g e i (k .keys-of .ensures .1) (o .short-key-at .ensures .1)
 
 pub oblong-sum-spec : {M : Type 1} → statement M
 oblong-sum-spec =
     tie.close
     (tie.spec
     keys-of-requires
-    own-key-requires
+    short-key-at-requires
     cast-steepest-oblong
     cast-steepest-oblong-2
     steepest-oblong-requires

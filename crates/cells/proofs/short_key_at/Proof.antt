@@ -5,10 +5,10 @@ use mir.Syntax.{w16}
 use mir.Val.{toZ, ofZ}
 use mir.Facts.{toZ-ofZ}
 use borrow.Author.Needs.{sfits-of}
 use Rattle.cells.proofs.Keys.{Known, known-read}
 use borrow.Author.Needs.{needs}
-use Rattle.slopes.proofs.own_key.Statement.{statement}
-use Rattle.slopes.proofs.own_key.Tie as tie
+use Rattle.cells.proofs.short_key_at.Statement.{statement}
+use Rattle.cells.proofs.short_key_at.Tie as tie
 
 mul-short-key : tie.Need-mul-short-key
 mul-short-key c = search needs
@@ -25,9 +25,9 @@ returns c =
     let e = s .args .elevations .now in
     let i = s .args .cell in
     let q : toZ w16 (ofZ w16 (getD e i (pos 0))) ≡ getD e i (pos 0) = toZ-ofZ (sfits-of (c .before .short-key-arg .given)) in
-    let k = known-read e i (c .short-key .result) (s .pre .0) (subst (Known (c .short-key .result)) q (c .short-key .ensures)) in
+    let k = known-read e i (c .short-key .result) (s .pre) (subst (Known (c .short-key .result)) q (c .short-key .ensures)) in
     (k .0, k .1 .1 .0)
 
-pub own-key-spec : {M : Type 1} → statement M
-own-key-spec =
+pub short-key-at-spec : {M : Type 1} → statement M
+short-key-at-spec =
     tie.close (tie.spec mul-short-key shared-slice-copy-out-short-key short-key-requires returns)
