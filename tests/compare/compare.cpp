@@ -167,7 +167,7 @@ static bool on_shore(const Desc &d, const V<i16> &e, u64 c) {
 }
 // Sheets that a call has answered: accepted ones that have, beside a data cell, a gap within the border, a gap on closed sides alone, a void that
 // is outside over a corner alone, one that is so by one side of the sheet's corner alone, the other being closed, and gaps and voids that are
-// outside at once; those refused with 18 that would be accepted if every void were outside; and accepted ones of gaps and nothing else.
+// outside at once; those refused with 18, a side being open, that would be accepted if every void were outside; and accepted ones of gaps and nothing else.
 enum Voids { LAKE, CLOSED_SIDE, OVER_CORNER, SHEET_CORNER, BOTH, ISLAND, NO_DATA, VOIDS };
 static const char *const VOID_NAMES[VOIDS] = {"a gap within the border", "on closed sides alone", "outside over a corner alone", "by one side of the sheet's corner",
                                               "a gap and a void outside", "an island in a gap", "no data cell"};
@@ -179,7 +179,7 @@ static void voids_answer(const char *call, u32 number, const Desc &d, const V<i1
   const u64 n = d.n();
   if (number == 18) {
     LEVEL = REQUEST - 1;
-    met[ISLAND] += first_stranded(d, e) == n;
+    met[ISLAND] += d.closed != 15 && first_stranded(d, e) == n;
     LEVEL = REQUEST;
     return;
   }
@@ -1411,7 +1411,7 @@ static bool every_order(const char *call, const V<std::pair<u32, u32>> &order) {
   return all;
 }
 // the same of a call that works out outlets: 17 and 18 are met in their order among the others (18 always comes before 10: without an
-// outlet the lowest cell has no level), each number of closed sides has been accepted, and voids of each kind have been met at least so often; a culvert
+// outlet the lowest cell has no level), each number of closed sides has been accepted, and voids of each kind have been met at least so often, islands half as often; a culvert
 // needs a data cell, and with no side open that has no outlet
 static bool every_outlets_answer(const char *call, const V<u32> &numbers, V<std::pair<u32, u32>> order, bool culvert, u64 least) {
   bool all = every_answer(call, numbers);
@@ -1423,7 +1423,7 @@ static bool every_outlets_answer(const char *call, const V<u32> &numbers, V<std:
   for (int k = 0; k < VOIDS; k++) {
     u64 met = voids_met[call][k];
     printf("  %s: %llu", VOID_NAMES[k], (unsigned long long)met);
-    all = all && (k == NO_DATA ? (met > 0) == !culvert : met >= least);
+    all = all && (k == NO_DATA ? (met > 0) == !culvert : met >= (k == ISLAND ? least / 2 : least));
   }
   printf("\n");
   return all;

@@ -254,7 +254,7 @@ static bool drained(Four &r, uint32_t w, uint32_t h) {
   return accepted(tervuola_drain((uint32_t)rows, (uint32_t)cols, sides, w, h, e.data(), n, r.filled.data(), n, r.codes.data(), n, r.counts.data(), n,
                                  r.labels.data(), n, r.work.data(), 4 * n));
 }
-// accepted sheets with a gap beside a data cell, within the border and on closed sides, those of them where a cell beside a gap has water on it, and
+// accepted sheets with data cells that have a gap within the border, and one on closed sides, those where a cell beside a gap has water on it, and
 // accepted sheets with gaps and with voids that are outside; accepted sheets with gaps and no data cell
 static unsigned long inner_gaps = 0, side_gaps = 0, wet_shores = 0, both_voids = 0, no_data = 0;
 static void count_gaps(const vector<int16_t> &filled) {

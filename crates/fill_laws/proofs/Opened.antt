@@ -1,4 +1,4 @@
--- Opening a cell moves neither voids nor outlets, so it strands no cell and frees none.
+-- Opening a cell moves neither voids nor gaps nor outlets, so it strands no cell and frees none.
 use mathlib.Core.Path.{_≡_, sym, _∙_, ap, ap₂}
 use mathlib.Core.Bool.{Bool, true, false, not, cond, _&&_}
 use mathlib.Core.List.{List}
@@ -20,7 +20,7 @@ use Rattle.grid_laws.proofs.Tests.{T-true, and-left, cond-true, cond-false}
 use Rattle.grid_laws.proofs.Below.{at-table, length-table, first-ext}
 use Rattle.grid_laws.proofs.Cells.{off-no-data, same-data}
 use Rattle.grid_laws.proofs.Joined.{same-joined}
-use Rattle.grid_laws.proofs.Outlets.{same-outlets}
+use Rattle.grid_laws.proofs.Outlets.{same-gaps, same-outlets}
 
 module _ (e : List ℤ) (cell : ℕ) (level : ℤ) (data-cell : isData e cell ≡ true) (for : isLevelFor e cell level ≡ true) where
   opened-data : (c : ℕ) → isData (opened e cell level) c ≡ isData e c
@@ -58,4 +58,4 @@ pub opened-alike : OpenedAlike
 opened-alike g e cell level d f =
     let q = T-true (isData e cell) d in
     let l = T-true (isLevelFor e cell level) f in
-    (opened-data e cell level q l, opened-outlets e cell level q l g, opened-stranded e cell level q l g)
+    (opened-data e cell level q l, same-gaps g (opened e cell level) e (opened-data e cell level q l), opened-outlets e cell level q l g, opened-stranded e cell level q l g)

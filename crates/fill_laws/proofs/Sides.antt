@@ -8,14 +8,15 @@ use Prim.Native.Nat.{ℕ, _<_}
 use native.Mathlib.Decide.{ℕ-discrete, decLt}
 use native.Mathlib.Omega.{arith}
 use lib.Dec.{eqb}
-use lib.ListN.{getD}
+use lib.ListN.{length, getD}
 use lib.IntN.{ℤ}
 use borrow.Author.Tests.{eq-eqb, ne-eqb, eqb-true}
 use Rattle.grid.specs.declared.Grid.{Grid}
 use Rattle.grid.specs.Below.{anyBelow, firstBelow}
-use Rattle.grid.specs.Sheet.{size, isData, neighbour, codeAt}
+use Rattle.grid.specs.Sheet.{size, isData, neighbour, codeAt, SixteenBits}
 use Rattle.grid.specs.Outlet.{isOpen, isOutside, leavesAt, isOutlet, outletOrder, outletCode}
-use Rattle.grid.specs.Readings.{outletBy, outletCodeBy}
+use Rattle.grid.specs.Fill.{filled}
+use Rattle.grid.specs.Readings.{outletBy, outletCodeBy, ReadsBy}
 use Rattle.grid.specs.Gaps.{NoGaps, voidLeaves, WithoutGaps}
 use Rattle.grid.specs.Sides.{baseLeaves, OpenSides}
 use Rattle.grid_laws.proofs.Tests.{true-false, or-left, or-right, or-cases, not-true-false, not-of-false, not-is-true, same-test}
@@ -23,7 +24,8 @@ use Rattle.grid_laws.proofs.Tests.{cond-true, cond-false}
 use Rattle.grid_laws.proofs.Below.{any-of, some-of-any, any-ext, first-is, first-none, first-≤, first-found, first-before, first-ext}
 use Rattle.grid_laws.proofs.Neighbours.{neighbour-on, stays-or-off}
 use Rattle.grid_laws.proofs.Outlets.{leaves-off, leaves-on, order-small, off-straight, straight-open, void-of, void-no-data}
-use Rattle.grid_laws.proofs.Outlets.{outside-void, void-outside}
+use Rattle.grid_laws.proofs.Outlets.{outside-void, void-outside, same-gaps}
+use Rattle.fill_laws.proofs.Filled.{filled-data}
 use Rattle.fill_laws.proofs.Left.{open-reach}
 use Rattle.fill_laws.proofs.Readings.{reads-by}
 
@@ -74,8 +76,15 @@ module _ (g : Grid) (e : List ℤ) (none : NoGaps g e) where
       (first-ext 8 (λ i. leavesAt g e c (getD outletOrder i 0)) (λ i. voidLeaves g e c (getD outletOrder i 0))
       (λ i h. same-step c (getD outletOrder i 0) (order-small i h)))
 
+  reads-void : ReadsBy g e (voidLeaves g e)
+  reads-void = reads-by g e (voidLeaves g e) void-outlet void-code
+
+-- the filled sheet has the input's gaps
+filled-none : (g : Grid) (e : List ℤ) → NoGaps g e → length e ≡ size g → SixteenBits e → NoGaps g (filled g e)
+filled-none g e none cells range c = same-gaps g (filled g e) e (filled-data g e cells range) c ∙ none c
+
 pub without-gaps : WithoutGaps
-without-gaps g e none = reads-by g e (voidLeaves g e) (void-outlet g e none) (void-code g e none)
+without-gaps g e none = (reads-void g e none, λ cells range. reads-void g (filled g e) (filled-none g e none cells range))
 
 -- ---- and with no side closed
 module _ (g : Grid) (zero-sides : g .sides ≡ 0) (e : List ℤ) (none : NoGaps g e) (c : ℕ) where
@@ -143,6 +152,12 @@ module _ (g : Grid) (zero-sides : g .sides ≡ 0) (e : List ℤ) (none : NoGaps 
               let i = w .1 in
               true-false (off-base (getD outletOrder (w .0) 0) (w .2)) (before (w .0) (omega arith))
 
+reads-base : (g : Grid) → g .sides ≡ 0 → (e : List ℤ) → NoGaps g e → ReadsBy g e (baseLeaves g e)
+reads-base g z e none = reads-by g e (baseLeaves g e) (base-outlet g z e none) (base-outlet-code g z e none)
+
 pub open-sides : OpenSides
-open-sides g e z none =
-    (reads-by g e (baseLeaves g e) (base-outlet g z e none) (base-outlet-code g z e none), open-reach g z e none)
+open-sides g e z none = (
+  reads-base g z e none,
+  λ cells range. reads-base g z (filled g e) (filled-none g e none cells range),
+  open-reach g z e none,
+)

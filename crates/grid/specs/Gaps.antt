@@ -32,10 +32,12 @@ pub record GapsAside (g : Grid) (e f : List ℤ) (codes : List ℕ) : Type 0 whe
   pub keeps-zero : (c : ℕ) → isGap g e c ≡ true → getD codes c 0 ≡ 0
   -- "no code points at it"
   pub no-code : (c : ℕ) → hasCode codes c ≡ true → isGap g e (receiver g codes c) ≡ false
-  -- "it takes no water": no route passes it
+  -- "it takes no water": no route holds it, and by `no-code` none ends in a step to it
   pub no-water : (c d : ℕ) → isGap g e c ≡ true → has c (route g codes d) ≡ false
-  -- it "makes no outlet": where each step leads to a data cell or to a gap, there is none
-  pub no-outlet : (c : ℕ) → ((p : ℕ) → p < 8 → (isData e (neighbour g c p) ≡ true) ⊎ (isGap g e (neighbour g c p) ≡ true)) →
+  -- it "makes no outlet": where each step leads to a data cell, to a gap, or off the sheet at no open side, there is none
+  pub no-outlet : (c : ℕ) →
+      ((p : ℕ) → p < 8 →
+      (isData e (neighbour g c p) ≡ true) ⊎ ((isGap g e (neighbour g c p) ≡ true) ⊎ ((neighbour g c p ≡ size g) × (isOpen g p ≡ false)))) →
       isOutlet g f c ≡ false
 
 abbrev pub NoCodeAtGap : Type 0
@@ -51,5 +53,8 @@ NoGaps g e = (c : ℕ) → isGap g e c ≡ false
 unfoldable pub voidLeaves : Grid → List ℤ → ℕ → ℕ → Bool
 voidLeaves g e c p = cond (eqb (neighbour g c p) (size g)) (isOpen g p) (not (isData e (neighbour g c p)))
 
+-- the filled sheet too, whose codes the one call works out
 abbrev pub WithoutGaps : Type 0
-WithoutGaps = (g : Grid) (e : List ℤ) → NoGaps g e → ReadsBy g e (voidLeaves g e)
+WithoutGaps =
+    (g : Grid) (e : List ℤ) → NoGaps g e →
+    ReadsBy g e (voidLeaves g e) × (length e ≡ size g → SixteenBits e → ReadsBy g (filled g e) (voidLeaves g (filled g e)))

@@ -7,8 +7,9 @@ use lib.Dec.{T, eqb}
 use lib.ListN.{length, getD}
 use lib.IntN.{ℤ}
 use Rattle.grid.specs.declared.Grid.{Grid}
-use Rattle.grid.specs.Sheet.{size, isData, neighbour}
-use Rattle.grid.specs.Outlet.{isOutlet, drained, firstStranded}
+use Rattle.grid.specs.Sheet.{size, isData, neighbour, SixteenBits}
+use Rattle.grid.specs.Outlet.{isGap, isOutlet, drained, firstStranded}
+use Rattle.grid.specs.Fill.{filled}
 use Rattle.grid.specs.Culvert.{opened, isLevelFor}
 use Rattle.grid.specs.Guarantee.{PathToOutlet}
 use Rattle.grid.specs.Readings.{ReadsBy}
@@ -22,11 +23,12 @@ DrainedByChains =
     (getD (drained g e) c false ≡ true → (l : List ℕ) × PathToOutlet g e c l)
     × ((l : List ℕ) → PathToOutlet g e c l → getD (drained g e) c false ≡ true)
 
--- ---- opening a cell moves neither voids nor outlets, so 18 of the opened sheet is 18 of the sheet handed in, after a yes to 15 and 16
+-- ---- opening a cell moves neither voids nor gaps nor outlets, so 18 of the opened sheet is 18 of the sheet handed in, after a yes to 15 and 16
 abbrev pub OpenedAlike : Type 0
 OpenedAlike =
     (g : Grid) (e : List ℤ) (cell : ℕ) (level : ℤ) → T (isData e cell) → T (isLevelFor e cell level) →
     ((c : ℕ) → isData (opened e cell level) c ≡ isData e c)
+    × ((c : ℕ) → isGap g (opened e cell level) c ≡ isGap g e c)
     × ((c : ℕ) → isOutlet g (opened e cell level) c ≡ isOutlet g e c)
     × (firstStranded g (opened e cell level) ≡ firstStranded g e)
 
@@ -37,8 +39,11 @@ unfoldable pub baseLeaves : Grid → List ℤ → ℕ → ℕ → Bool
 baseLeaves g e c p = eqb (neighbour g c p) (size g) || not (isData e (neighbour g c p))
 
 -- with no side closed and no gap a sheet is document 01's: outlets, filled sheet, codes, by drops over the distances of its own cells, which
--- with square ones are document 01's (`SquareCells` and `OldDistances` of Shapes), and question 10; and 18 is never answered by a no
+-- with square ones are document 01's (`SquareCells` and `OldDistances` of Shapes), and question 10; so is the filled sheet, whose codes the one
+-- call works out; and 18 is never answered by a no
 abbrev pub OpenSides : Type 0
 OpenSides =
     (g : Grid) (e : List ℤ) → g .sides ≡ 0 → NoGaps g e →
-    ReadsBy g e (baseLeaves g e) × (length e ≡ size g → firstStranded g e ≡ size g)
+    ReadsBy g e (baseLeaves g e)
+    × (length e ≡ size g → SixteenBits e → ReadsBy g (filled g e) (baseLeaves g (filled g e)))
+    × (length e ≡ size g → firstStranded g e ≡ size g)

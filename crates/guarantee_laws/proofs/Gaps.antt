@@ -9,7 +9,7 @@ use lib.ListN.{length, getD}
 use lib.IntN.{ℤ}
 use Rattle.grid.specs.declared.Grid.{Grid}
 use Rattle.grid.specs.Sheet.{size, isData, neighbour, SixteenBits}
-use Rattle.grid.specs.Outlet.{isGap, leavesAt, isOutlet}
+use Rattle.grid.specs.Outlet.{isOpen, isGap, leavesAt, isOutlet}
 use Rattle.grid.specs.Fill.{filled}
 use Rattle.grid.specs.Directions.{levels, directions}
 use Rattle.grid.specs.Routes.{hasCode, receiver, route}
@@ -18,7 +18,8 @@ use Rattle.grid_laws.proofs.Tests.{test, true-false, not-true-false, not-false-
 use Rattle.grid_laws.proofs.Cells.{no-data-void}
 use Rattle.grid_laws.proofs.Few.{no-in-has}
 use Rattle.grid_laws.proofs.Neighbours.{no-code}
-use Rattle.grid_laws.proofs.Outlets.{void-on, void-no-data, gap-void, same-gaps, outlet-leaves, leaves-no-data, leaves-no-gap}
+use Rattle.grid_laws.proofs.Outlets.{void-on, void-no-data, gap-void, same-gaps, outlet-leaves, leaves-off, leaves-no-data}
+use Rattle.grid_laws.proofs.Outlets.{leaves-no-gap}
 use Rattle.fill_laws.proofs.Filled.{filled-length, filled-data}
 use Rattle.flow_laws.specs.Levels.{Levels}
 use Rattle.flow_laws.proofs.Agree.{levels-certified}
@@ -61,13 +62,18 @@ module _ (g : Grid) (e f : List ℤ) (same : (c : ℕ) → isData f c ≡ isData
           go (suc k) q =
               data-no-gap (receiver g codes c) (leads-down g f long (levels g f) certified c d o (omega arith) .to-data)
 
-  beside-gaps : (c : ℕ) → ((p : ℕ) → p < 8 → (isData e (neighbour g c p) ≡ true) ⊎ (isGap g e (neighbour g c p) ≡ true)) →
-      isOutlet g f c ≡ false
+  -- a step that leads to a data cell, to a gap, or off the sheet at no open side
+  abbrev Stays : ℕ → ℕ → Type 0
+  Stays c p =
+      (isData e (neighbour g c p) ≡ true) ⊎ ((isGap g e (neighbour g c p) ≡ true) ⊎ ((neighbour g c p ≡ size g) × (isOpen g p ≡ false)))
+
+  beside-gaps : (c : ℕ) → ((p : ℕ) → p < 8 → Stays c p) → isOutlet g f c ≡ false
   beside-gaps c h = not-true-false (isOutlet g f c) (λ o. let w = outlet-leaves g f c o in go (w .0) (w .2) (h (w .0) (w .1)))
     where
-      go : (p : ℕ) → leavesAt g f c p ≡ true → (isData e (neighbour g c p) ≡ true) ⊎ (isGap g e (neighbour g c p) ≡ true) → ⊥
+      go : (p : ℕ) → leavesAt g f c p ≡ true → Stays c p → ⊥
       go p l (inl d) = true-false (same (neighbour g c p) ∙ d) (leaves-no-data g f long c p l)
-      go p l (inr t) = true-false t (same-gaps g e f (λ x. sym (same x)) (neighbour g c p) ∙ leaves-no-gap g f c p l)
+      go p l (inr (inl t)) = true-false t (same-gaps g e f (λ x. sym (same x)) (neighbour g c p) ∙ leaves-no-gap g f c p l)
+      go p l (inr (inr o)) = true-false l (leaves-off g f c p (o .0) ∙ o .1)
 
   pub gaps-aside : GapsAside g e f codes
   gaps-aside =

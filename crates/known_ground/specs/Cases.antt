@@ -1,4 +1,4 @@
--- "Known ground": each case is what a definition gives, and what document 01 says it must be.
+-- "Known ground": each case is what a definition gives, and what documents 01 and 02 say it must be.
 use mathlib.Core.Bool.{Bool, true, false, cond, _&&_}
 use mathlib.Core.List.{List, [], _∷_, map}
 use Prim.Native.Nat.{ℕ}
@@ -126,6 +126,14 @@ lagoon =
     pos 5 ∷ negsuc 32767 ∷ pos 5 ∷ pos 5 ∷
     pos 5 ∷ pos 5 ∷ pos 5 ∷ pos 5 ∷
     pos 5 ∷ pos 5 ∷ pos 5 ∷ pos 5 ∷ []
+
+-- 4 by 5: a gap of three cells, and beside it four cells, the last of them on the east side
+lake : ℤ → ℤ → ℤ → ℤ → List ℤ
+lake a b c d =
+    pos 9 ∷ pos 9 ∷ pos 9 ∷ pos 9 ∷ pos 9 ∷
+    pos 9 ∷ negsuc 32767 ∷ a ∷ b ∷ pos 9 ∷
+    pos 9 ∷ negsuc 32767 ∷ negsuc 32767 ∷ c ∷ d ∷
+    pos 9 ∷ pos 9 ∷ pos 9 ∷ pos 9 ∷ pos 9 ∷ []
 
 -- 4 by 6: a pond of two cells that touch at a corner, and one of a cell whose bank is 5 in the east
 pools : List ℤ
@@ -263,8 +271,8 @@ runIn work s = numberAndPlace (runCheck (gridOf 1 4) streams work s)
 -- ---- the table
 
 unfoldable pub knownGround : List Case
-unfolding printed-input printed-output voids between middle basin hole island lagoon oneWhere pools poolNumbers bank opened-bank cut eastward corners
-    corners-read corners-written numberAndPlace culvertIn writeIn listsIn codeAmid shapeIn basinCodes openedCodes eastwardCodes
+unfolding printed-input printed-output voids between middle basin hole island lagoon lake oneWhere pools poolNumbers bank opened-bank cut
+    eastward corners corners-read corners-written numberAndPlace culvertIn writeIn listsIn codeAmid shapeIn basinCodes openedCodes eastwardCodes
     streams crewsAfter traced standing collectedIn handIn runIn
 knownGround =
     -- P1: the printed example, from text to text
@@ -302,6 +310,9 @@ knownGround =
     ∷ numbers (oneWhere (isOutlet (gridOf 4 4) lagoon 6) ∷ oneWhere (isGap (gridOf 4 4) lagoon 5) ∷ []) (1 ∷ 0 ∷ [])
     ∷ numbers (oneWhere (isOutlet (closedGrid 4 4 5) lagoon 6) ∷ oneWhere (isGap (closedGrid 4 4 5) lagoon 0) ∷ []) (0 ∷ 1 ∷ [])
     ∷ numbers (oneWhere (isOutlet (closedGrid 4 4 1) lagoon 6) ∷ oneWhere (isGap (closedGrid 4 4 1) lagoon 0) ∷ []) (1 ∷ 0 ∷ [])
+    -- no water goes out by a gap: low ground beside it drains east, and is filled to its banks where the east side is closed
+    ∷ elevations (filled (gridOf 4 5) (lake (pos 4) (pos 3) (pos 5) (pos 2))) (lake (pos 4) (pos 3) (pos 5) (pos 2))
+    ∷ elevations (filled (closedGrid 4 5 2) (lake (pos 4) (pos 3) (pos 5) (pos 2))) (lake (pos 9) (pos 9) (pos 9) (pos 9))
     -- an island in a gap has no way out: 18, also printed
     ∷ numbers (numberAndPlace (drainCheck (gridOf 5 5) island 25 25 25 25 100)) (18 ∷ 12 ∷ [])
     ∷ numbers (programText (elevationText (gridOf 5 5) island))

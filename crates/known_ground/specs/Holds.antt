@@ -27,7 +27,8 @@ use Rattle.known_ground.specs.Cases.{allHold, knownGround}
 
 pub known-ground : allHold knownGround ≡ true
 unfolding allHold knownGround table anyBelow sumBelow countBelow firstBelow joinBelow has lastOf void top eqZ lower higher isData
-    positionOf moved cellAt neighbour isOpen isVoid onOpenSide outside isOutside isGap leavesAt isOutlet outletCode drained firstStranded startAt lowestTo passAt passes filled
+    positionOf moved cellAt neighbour isOpen isVoid onOpenSide outside isOutside isGap leavesAt isOutlet outletCode drained firstStranded
+    startAt lowestTo passAt passes filled
     dropTo squaredDistance beats beaten isSteepest steepestSum member score bestOf choice isEqual hasDescent isLevelZero levelPassAt
     levelPasses levels flatSum directionAt directions firstUnlevelled follow endsBy hasCode receiver countAt labelAt counts labels
     firstBadCode firstEndless joinPass joinPasses joined isWet pondOf lowestCell isLowest ponds pondCount natural depth pondLevel

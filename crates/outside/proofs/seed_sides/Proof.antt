@@ -76,7 +76,9 @@ returns c =
     let i = j .before .before .before .before in
     let s = i .before .before .before in
     let a = s .args in
-    four-sides (a .g) (a .base) (a .half) (a .work .now) (i .seed-side .last .1 .1 .1 .1 .1 .1 .1 .1 .0) (j .seed-side2 .last .1 .1 .1 .1 .1 .1 .1 .1 .0) (k .seed-side3 .last .1 .1 .1 .1 .1 .1 .1 .1 .0) (l .seed-side4 .last .1 .1 .1 .1 .1 .1 .1 .1 .0)
+    four-sides (a .g) (a .base) (a .half) (a .work .now) (i .seed-side .last .1 .1 .1 .1 .1 .1 .1 .1 .0)
+    (j .seed-side2 .last .1 .1 .1 .1 .1 .1 .1 .1 .0) (k .seed-side3 .last .1 .1 .1 .1 .1 .1 .1 .1 .0)
+    (l .seed-side4 .last .1 .1 .1 .1 .1 .1 .1 .1 .0)
     (i .seed-side .result) (j .seed-side2 .result) (k .seed-side3 .result) (l .seed-side4 .result)
     (i .seed-side .ensures .0) (j .seed-side2 .ensures .0) (k .seed-side3 .ensures .0) (l .seed-side4 .ensures .0)
     (i .seed-side .ensures .1) (j .seed-side2 .ensures .1) (k .seed-side3 .ensures .1) (l .seed-side4 .ensures .1)
