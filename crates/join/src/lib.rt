@@ -4,7 +4,7 @@
 // what the search comes to.
 use grid::Grid;
 ghost use mathlib.Core.Path.{_≡_};
-ghost use Prim.Native.Nat.{_+_, _/_, _%_, _<_, _≤_};
+ghost use Prim.Native.Nat.{_+_, _/_, _%_, _<_, _≤_, _^_};
 ghost use lib.ListN.{length, getD};
 ghost use Rattle.grid.specs.Sheet.{size};
 ghost use Rattle.cells.specs.Steps.{Inner, Offsets};
@@ -140,26 +140,19 @@ fn spread(
 }
 
 // Joins all that the set joins to the `len` cells of mark `value`, which stand in the queue.
-pub fn join(
-    g: Grid,
-    half: usize,
-    base: usize,
-    value: u32,
-    len: usize,
-    offsets: &[usize; 8],
-    work: &mut [u32],
-)
+pub fn join(g: Grid, half: usize, base: usize, value: u32, len: usize, work: &mut [u32])
     requires { ⌜ Parts (size g) base half (length (now work)) ⌝ }
     requires { ⌜ 2 ≤ value ⌝ }
     requires { ⌜ Searching g value (partOf (size g) base (now work)) (partOf (size g) half (now work)) 0 len ⌝ }
-    requires { ⌜ Offsets (g .cols) (now offsets) ⌝ }
+    requires { ⌜ g .cols < 2 ^ 24 ⌝ }
     ensures { λ r. ⌜ partOf (size g) base (now (work .exit)) ≡ joinedMarks g value (partOf (size g) base (now (work .entry))) ⌝ }
     ensures { λ r. ⌜ GoesOn g base half value (now (work .entry)) (now (work .exit)) ⌝ }
 {
+    let offsets = cells::offsets(g.cols);
     let mut head: usize = 0;
     let mut tail = len;
     while head < tail {
-        tail = spread(g, half, base, value, head, tail, offsets, work);
+        tail = spread(g, half, base, value, head, tail, &offsets, work);
         head += 1;
     }
 }

@@ -126,8 +126,7 @@ pub fn mark(g: Grid, elevations: &[i16], work: &mut [u32])
     }
     let half = work.len() / 2;
     let base = half + n;
-    let offsets = cells::offsets(g.cols);
     mark_voids(elevations, base, work);
     let len = seed_sides(g, half, base, work);
-    join::join(g, half, base, 2, len, &offsets, work);
+    join::join(g, half, base, 2, len, work);
 }

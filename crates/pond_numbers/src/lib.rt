@@ -9,7 +9,6 @@ ghost use Prim.Native.Nat.{_+_, _*_, _/_, _%_, _<_, _^_};
 ghost use lib.Dec.{ltb};
 ghost use lib.ListN.{length, getD};
 ghost use Rattle.grid.specs.Sheet.{size, SixteenBits};
-ghost use Rattle.cells.specs.Steps.{Offsets};
 ghost use Rattle.fill.specs.Words.{Words};
 ghost use Rattle.pond_numbers.specs.State.{Sizes, Numbered};
 
@@ -54,13 +53,11 @@ fn number_at(
     half: usize,
     c: usize,
     count: u32,
-    offsets: &[usize; 8],
     work: &mut [u32],
 ) -> u32
     requires { ⌜ Sizes g (now elevations) (length (now work)) ⌝ }
     requires { ⌜ half ≡ length (now work) / 2 ⌝ }
     requires { ⌜ c < size g ⌝ }
-    requires { ⌜ Offsets (g .cols) (now offsets) ⌝ }
     requires { ⌜ Numbered g (now elevations) (now work) c count ⌝ }
     ensures { λ r. ⌜ Numbered g (now (elevations .entry)) (now (work .exit)) (c + 1) r ⌝ }
 {
@@ -69,7 +66,7 @@ fn number_at(
         return count;
     }
     let len = queue::put(half, 0, c, n + c, count + 2, work);
-    join::join(g, half, n, count + 2, len, offsets, work);
+    join::join(g, half, n, count + 2, len, work);
     count + 1
 }
 
@@ -81,11 +78,10 @@ fn number(g: Grid, elevations: &[i16], work: &mut [u32]) -> u32
 {
     let n = g.rows * g.cols;
     let half = work.len() / 2;
-    let offsets = cells::offsets(g.cols);
     let mut count: u32 = 0;
     let mut c: usize = 0;
     while c < n {
-        count = number_at(g, elevations, half, c, count, &offsets, work);
+        count = number_at(g, elevations, half, c, count, work);
         c += 1;
     }
     count

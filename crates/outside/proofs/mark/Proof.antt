@@ -44,19 +44,16 @@ returns c =
 add-base : tie.Need-add-base
 add-base c = search needs
 
-offsets-requires : tie.Need-offsets-requires
-offsets-requires c κs = search needs
-
 mark-voids-requires : tie.Need-mark-voids-requires
 mark-voids-requires c κs = search needs
 
 seed-sides-requires : tie.Need-seed-sides-requires
 seed-sides-requires c κs =
     let k = c .before .before .before in
-    let s = k .before .before .before .before .before .before in
+    let s = k .before .before .before .before .before in
     let a = s .args in
     let l = length (a .work .now) in
-    let some = k .before .before .before .if1 .left in (
+    let some = k .before .before .if1 .left in (
       parts (a .g) l _ (k .mark-voids .kept .1 .1 .0) (s .pre .1 .0) (s .pre .1 .1 .1),
       (
         omega arith,
@@ -70,12 +67,12 @@ seed-sides-requires c κs =
 
 join-requires : tie.Need-join-requires
 join-requires c κs =
-    let t = c .before .before .before .before in
+    let t = c .before .before .before in
     let k = t .before .before .before .before in
-    let s = k .before .before .before .before .before .before in
+    let s = k .before .before .before .before .before in
     let a = s .args in (
       parts (a .g) (length (a .work .now)) _ (t .seed-sides .kept .1 .1 .1 .0 ∙ k .mark-voids .kept .1 .1 .0) (s .pre .1 .0) (s .pre .1 .1 .1),
-      (omega arith, (t .seed-sides .ensures .0 .searching, k .before .before .offsets .ensures)),
+      (omega arith, (t .seed-sides .ensures .0 .searching, s .pre .1 .1 .0)),
     )
 
 same-length : tie.Need-same-length
@@ -84,15 +81,15 @@ same-length c = search needs
 returns-2 : tie.Need-returns-2
 returns-2 c =
     let j = c .before .before in
-    let t = j .before .before .before .before .before in
+    let t = j .before .before .before .before in
     let k = t .before .before .before .before in
-    let s = k .before .before .before .before .before .before in
+    let s = k .before .before .before .before .before in
     let a = s .args in
     let l = length (a .work .now) in
     let few = s .pre .1 .0 in
     let room = s .pre .1 .1 .1 in (
       marked-by (a .g) (a .elevations .now) (l / 2 + size (a .g)) (l / 2) (k .mark-voids .last .1 .1 .0) (t .seed-sides .last .1 .1 .1 .0)
-          (j .join .last .1 .1 .1 .1 .1 .1 .0) (t .seed-sides .result)
+          (j .join .last .1 .1 .1 .1 .1 .0) (t .seed-sides .result)
           (λ x h. k .mark-voids .ensures .0 x (let e = s .pre .0 in omega arith)) (t .seed-sides .ensures .0) (t .seed-sides .ensures .1)
           (j .join .ensures .0),
       λ i h. j .join .ensures .1 .kept i (λ x m q. omega arith) (λ x m q. omega arith) ∙ t .seed-sides .ensures .0 .front i h
@@ -106,7 +103,6 @@ mark-spec =
     mul-n
     returns
     add-base
-    offsets-requires
     mark-voids-requires
     seed-sides-requires
     join-requires

@@ -10,41 +10,37 @@ use Rattle.pond_numbers.proofs.number.Statement.{statement}
 use Rattle.pond_numbers.proofs.number.Tie as tie
 
 abbrev Inv-loop : tie.InvT-loop
-Inv-loop g elevations work₀ n half offsets count₀ c₀ work count c =
+Inv-loop g elevations work₀ n half count₀ c₀ work count c =
     (c ≤ size g) × (length work ≡ length work₀) × Numbered g elevations work c count
 
 abbrev μ-loop : tie.MeasureT-loop
-μ-loop g elevations work₀ n half offsets count₀ c₀ work count c = size g - c
+μ-loop g elevations work₀ n half count₀ c₀ work count c = size g - c
 
 mul-n : tie.Need-mul-n Inv-loop μ-loop
 mul-n c = let f = c .before .before .pre .0 .few in omega arith
 
-offsets-requires : tie.Need-offsets-requires Inv-loop μ-loop
-offsets-requires c κs = c .before .before .pre .0 .narrow
-
 loop-holds : tie.Need-loop-holds Inv-loop μ-loop
-loop-holds c = (omega arith, refl, c .before .before .before .pre .1)
+loop-holds c = (omega arith, refl, c .before .before .pre .1)
 
 number-at-requires : tie.Need-number-at-requires Inv-loop μ-loop
 number-at-requires c κs =
-    let s = c .before .before .before .before .before .before .before in
-    let l = c .before .before .before .loop in
-    let o = c .before .before .before .before .offsets .ensures in
-    let t = c .before .before .loop-test .taken in
-    (sizes-same (s .pre .0) (l .inv .1), (ap (λ (x : ℕ). x / 2) (sym (l .inv .1)), (omega arith, (o, l .inv .2))))
+    let s = c .before .before .before .before .before in
+    let l = c .before .before .loop in
+    let t = c .before .loop-test .taken in
+    (sizes-same (s .pre .0) (l .inv .1), (ap (λ (x : ℕ). x / 2) (sym (l .inv .1)), (omega arith, l .inv .2)))
 
 add-c : tie.Need-add-c Inv-loop μ-loop
-add-c c = let f = c .before .before .before .before .before .before .before .before .before .before .pre .0 .few in omega arith
+add-c c = let f = c .before .before .before .before .before .before .before .before .pre .0 .few in omega arith
 
 loop-less : tie.Need-loop-less Inv-loop μ-loop
 loop-less c = omega arith
 
 loop-again : tie.Need-loop-again Inv-loop μ-loop
 loop-again c =
-    let l = c .before .before .before .before .before .before .loop in
-    let t = c .before .before .before .before .before .loop-test .taken in
+    let l = c .before .before .before .before .before .loop in
+    let t = c .before .before .before .before .loop-test .taken in
     let m = c .before .before .number-at in
-    (omega arith, m .kept .1 .1 .1 .1 .1 .1 .0 ∙ l .inv .1, m .ensures)
+    (omega arith, m .kept .1 .1 .1 .1 .1 .0 ∙ l .inv .1, m .ensures)
 
 same-length : tie.Need-same-length Inv-loop μ-loop
 same-length c = c .before .loop .inv .1
@@ -54,7 +50,7 @@ returns c =
     let l = c .before .loop in
     let h = l .inv .0 in
     let t = c .loop-test .left in
-    let q : l .c ≡ size (c .before .before .before .before .before .args .g) = omega arith in
+    let q : l .c ≡ size (c .before .before .before .before .args .g) = omega arith in
     rw q at (l .inv .2)
 
 pub number-spec : {M : Type 1} → statement M
@@ -64,7 +60,6 @@ number-spec =
     Inv-loop
     μ-loop
     mul-n
-    offsets-requires
     loop-holds
     number-at-requires
     add-c

@@ -22,7 +22,7 @@ returns c =
     let a = s .args in
     let m = c .before .mark-at .ensures in
     passed-by (a .g) (a .elevations .now) (a .work .now) (a .half) (a .c) (a .count) (s .pre .0) (s .pre .1 .0) (s .pre .1 .1 .0)
-    (s .pre .1 .1 .1 .1) (λ e. c .if1 .taken (m ∙ e))
+    (s .pre .1 .1 .1) (λ e. c .if1 .taken (m ∙ e))
 
 add-put : tie.Need-add-put
 add-put c = search needs
@@ -33,7 +33,7 @@ add-put-2 c =
     let a = s .args in
     let f = s .pre .0 .few in
     let h = few-ponds (a .g) (a .elevations .now) (a .work .now) (a .half) (a .c) (a .count) (s .pre .0) (s .pre .1 .0) (s .pre .1 .1 .0)
-    (s .pre .1 .1 .1 .1) in
+    (s .pre .1 .1 .1) in
     omega arith
 
 put-requires : tie.Need-put-requires
@@ -45,14 +45,14 @@ add-join c =
     let a = s .args in
     let f = s .pre .0 .few in
     let h = few-ponds (a .g) (a .elevations .now) (a .work .now) (a .half) (a .c) (a .count) (s .pre .0) (s .pre .1 .0) (s .pre .1 .1 .0)
-    (s .pre .1 .1 .1 .1) in
+    (s .pre .1 .1 .1) in
     omega arith
 
 join-requires : tie.Need-join-requires
 join-requires c κs =
     let s = c .before .before .before .before .before .before .before .before .before .before in
     let a = s .args in
-    let N = s .pre .1 .1 .1 .1 in
+    let N = s .pre .1 .1 .1 in
     let t = c .before .before .before .put in
     let m = c .before .before .before .before .before .before .mark-at .ensures in
     let one = sym m ∙ c .before .before .before .before .before .if1 .left in
@@ -63,7 +63,7 @@ join-requires c κs =
     one w (t .result) (t .ensures .1) (t .ensures .0) in
     let q = seeded (a .g) (a .elevations .now) (a .work .now) (a .half) (a .c) (a .count) (s .pre .0) (s .pre .1 .0) (s .pre .1 .1 .0) N
     one w (t .result) (t .ensures .1) (t .ensures .0) in
-    (parts-same P l, (omega arith, (q, s .pre .1 .1 .1 .0)))
+    (parts-same P l, (omega arith, (q, s .pre .0 .narrow)))
 
 add-result : tie.Need-add-result
 add-result c =
@@ -71,7 +71,7 @@ add-result c =
     let a = s .args in
     let f = s .pre .0 .few in
     let h = few-ponds (a .g) (a .elevations .now) (a .work .now) (a .half) (a .c) (a .count) (s .pre .0) (s .pre .1 .0) (s .pre .1 .1 .0)
-    (s .pre .1 .1 .1 .1) in
+    (s .pre .1 .1 .1) in
     omega arith
 
 same-length-2 : tie.Need-same-length-2
@@ -87,7 +87,7 @@ returns-2 c =
     let one = sym m ∙ b .before .before .before .before .if1 .left in
     let j = c .before .before .join in
     numbered-on (a .g) (a .elevations .now) (a .work .now) (a .half) (a .c) (a .count) (s .pre .0) (s .pre .1 .0) (s .pre .1 .1 .0)
-    (s .pre .1 .1 .1 .1) one (t .last .1 .1 .1 .1 .1 .0) (t .result) (t .ensures .1) (t .ensures .0) (j .last .1 .1 .1 .1 .1 .1 .0)
+    (s .pre .1 .1 .1) one (t .last .1 .1 .1 .1 .1 .0) (t .result) (t .ensures .1) (t .ensures .0) (j .last .1 .1 .1 .1 .1 .0)
     (j .ensures .0) (j .ensures .1)
 
 pub number-at-spec : {M : Type 1} → statement M
