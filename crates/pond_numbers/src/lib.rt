@@ -46,7 +46,7 @@ pub fn mark_at(g: Grid, c: usize, work: &[u32]) -> u32
     work[g.rows * g.cols + c]
 }
 
-// Numbers the pond of the cell `c`, after `count` others, if that is its lowest cell.
+// Numbers the pond whose lowest cell is `c`, after `count` others.
 fn number_at(
     g: Grid,
     elevations: &[i16],
@@ -58,19 +58,17 @@ fn number_at(
     requires { ⌜ Sizes g (now elevations) (length (now work)) ⌝ }
     requires { ⌜ half ≡ length (now work) / 2 ⌝ }
     requires { ⌜ c < size g ⌝ }
+    requires { ⌜ getD (now work) (size g + c) 0 ≡ 1 ⌝ }
     requires { ⌜ Numbered g (now elevations) (now work) c count ⌝ }
     ensures { λ r. ⌜ Numbered g (now (elevations .entry)) (now (work .exit)) (c + 1) r ⌝ }
 {
     let n = g.rows * g.cols;
-    if mark_at(g, c, work) != 1 {
-        return count;
-    }
     let len = queue::put(half, 0, c, n + c, count + 2, work);
     join::join(g, half, n, count + 2, len, work);
     count + 1
 }
 
-// Numbers the ponds; how many they are.
+// Numbers the ponds; how many they are. The mark is asked here, so that a dry cell costs no call.
 fn number(g: Grid, elevations: &[i16], work: &mut [u32]) -> u32
     requires { ⌜ Sizes g (now elevations) (length (now work)) ⌝ }
     requires { ⌜ Numbered g (now elevations) (now work) 0 0 ⌝ }
@@ -81,7 +79,9 @@ fn number(g: Grid, elevations: &[i16], work: &mut [u32]) -> u32
     let mut count: u32 = 0;
     let mut c: usize = 0;
     while c < n {
-        count = number_at(g, elevations, half, c, count, work);
+        if mark_at(g, c, work) == 1 {
+            count = number_at(g, elevations, half, c, count, work);
+        }
         c += 1;
     }
     count

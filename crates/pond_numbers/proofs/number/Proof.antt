@@ -1,11 +1,12 @@
 -- The ponds are numbered whose lowest cell is one of the first c.
 use native.Mathlib.Omega.{arith}
+use mathlib.Core.Logic.{⊎-elim}
 use mathlib.Core.Path.{_≡_, refl, sym, _∙_, ap}
 use Prim.Native.Nat.{ℕ, _-_, _/_, _≤_}
 use lib.ListN.{length}
 use Rattle.grid.specs.Sheet.{size}
 use Rattle.pond_numbers.specs.State.{Numbered}
-use Rattle.pond_numbers.proofs.Numbering.{sizes-same}
+use Rattle.pond_numbers.proofs.Numbering.{sizes-same, passed-by}
 use Rattle.pond_numbers.proofs.number.Statement.{statement}
 use Rattle.pond_numbers.proofs.number.Tie as tie
 
@@ -22,25 +23,48 @@ mul-n c = let f = c .before .before .pre .0 .few in omega arith
 loop-holds : tie.Need-loop-holds Inv-loop μ-loop
 loop-holds c = (omega arith, refl, c .before .before .pre .1)
 
-number-at-requires : tie.Need-number-at-requires Inv-loop μ-loop
-number-at-requires c κs =
+mark-at-requires : tie.Need-mark-at-requires Inv-loop μ-loop
+mark-at-requires c κs =
     let s = c .before .before .before .before .before in
     let l = c .before .before .loop in
     let t = c .before .loop-test .taken in
-    (sizes-same (s .pre .0) (l .inv .1), (ap (λ (x : ℕ). x / 2) (sym (l .inv .1)), (omega arith, l .inv .2)))
+    let r = s .pre .0 .room in
+    let k = l .inv .1 in
+    (s .pre .0 .few, omega arith)
+
+number-at-requires : tie.Need-number-at-requires Inv-loop μ-loop
+number-at-requires c κs =
+    let s = c .before .before .before .before .before .before .before .before in
+    let l = c .before .before .before .before .before .loop in
+    let t = c .before .before .before .before .loop-test .taken in
+    let m = c .before .before .mark-at .ensures in
+    let one = sym m ∙ c .before .if1 .taken in
+    (sizes-same (s .pre .0) (l .inv .1), (ap (λ (x : ℕ). x / 2) (sym (l .inv .1)), (omega arith, (one, l .inv .2))))
 
 add-c : tie.Need-add-c Inv-loop μ-loop
-add-c c = let f = c .before .before .before .before .before .before .before .before .pre .0 .few in omega arith
+add-c c = let f = c .before .before .before .before .before .before .before .pre .0 .few in omega arith
 
 loop-less : tie.Need-loop-less Inv-loop μ-loop
 loop-less c = omega arith
 
 loop-again : tie.Need-loop-again Inv-loop μ-loop
 loop-again c =
-    let l = c .before .before .before .before .before .loop in
-    let t = c .before .before .before .before .loop-test .taken in
-    let m = c .before .before .number-at in
-    (omega arith, m .kept .1 .1 .1 .1 .1 .0 ∙ l .inv .1, m .ensures)
+    let l = c .before .before .before .before .loop in
+    let s = c .before .before .before .before .before .before .before in
+    let a = s .args in
+    let t = c .before .before .before .loop-test .taken in
+    let m = c .before .mark-at .ensures in
+    ⊎-elim
+    (λ w. (omega arith, ap length (w .5) ∙ w .2 .kept .1 .1 .1 .1 .1 .0 ∙ l .inv .1, rw (w .5) (rw (w .6) (w .2 .ensures))))
+    (λ w. (
+      omega arith,
+      ap length (w .1) ∙ l .inv .1,
+      rw (w .1)
+          (rw (w .2)
+          (passed-by (a .g) (a .elevations .now) (l .work) (length (a .work .now) / 2) (l .c) (l .count) (sizes-same (s .pre .0) (l .inv .1))
+          (ap (λ (x : ℕ). x / 2) (sym (l .inv .1))) (omega arith) (l .inv .2) (λ q. w .0 .left (m ∙ q)))),
+    ))
+    (c .if1 .came)
 
 same-length : tie.Need-same-length Inv-loop μ-loop
 same-length c = c .before .loop .inv .1
@@ -61,6 +85,7 @@ number-spec =
     μ-loop
     mul-n
     loop-holds
+    mark-at-requires
     number-at-requires
     add-c
     loop-less

@@ -1,8 +1,7 @@
--- A cell of mark 1 is the lowest of its pond, which is joined from it; any other is passed by.
-use mathlib.Core.Path.{sym, _∙_}
+-- A cell of mark 1 is the lowest of its pond, which is joined from it.
 use native.Mathlib.Omega.{arith}
 use Rattle.join_laws.proofs.Search.{parts-same}
-use Rattle.pond_numbers.proofs.Numbering.{parts, few-ponds, passed-by, taken-long, seeded, numbered-on}
+use Rattle.pond_numbers.proofs.Numbering.{parts, few-ponds, taken-long, seeded, numbered-on}
 use borrow.Author.Needs.{needs}
 use Rattle.pond_numbers.proofs.number_at.Statement.{statement}
 use Rattle.pond_numbers.proofs.number_at.Tie as tie
@@ -10,30 +9,16 @@ use Rattle.pond_numbers.proofs.number_at.Tie as tie
 mul-n : tie.Need-mul-n
 mul-n c = search needs
 
-mark-at-requires : tie.Need-mark-at-requires
-mark-at-requires c κs = search needs
-
-same-length : tie.Need-same-length
-same-length c = search needs
-
-returns : tie.Need-returns
-returns c =
-    let s = c .before .before .before .before .before in
-    let a = s .args in
-    let m = c .before .mark-at .ensures in
-    passed-by (a .g) (a .elevations .now) (a .work .now) (a .half) (a .c) (a .count) (s .pre .0) (s .pre .1 .0) (s .pre .1 .1 .0)
-    (s .pre .1 .1 .1) (λ e. c .if1 .taken (m ∙ e))
-
 add-put : tie.Need-add-put
 add-put c = search needs
 
 add-put-2 : tie.Need-add-put-2
 add-put-2 c =
-    let s = c .before .before .before .before .before in
+    let s = c .before .before in
     let a = s .args in
     let f = s .pre .0 .few in
     let h = few-ponds (a .g) (a .elevations .now) (a .work .now) (a .half) (a .c) (a .count) (s .pre .0) (s .pre .1 .0) (s .pre .1 .1 .0)
-    (s .pre .1 .1 .1) in
+    (s .pre .1 .1 .1 .1) in
     omega arith
 
 put-requires : tie.Need-put-requires
@@ -41,21 +26,20 @@ put-requires c κs = search needs
 
 add-join : tie.Need-add-join
 add-join c =
-    let s = c .before .before .before .before .before .before .before .before .before in
+    let s = c .before .before .before .before .before .before in
     let a = s .args in
     let f = s .pre .0 .few in
     let h = few-ponds (a .g) (a .elevations .now) (a .work .now) (a .half) (a .c) (a .count) (s .pre .0) (s .pre .1 .0) (s .pre .1 .1 .0)
-    (s .pre .1 .1 .1) in
+    (s .pre .1 .1 .1 .1) in
     omega arith
 
 join-requires : tie.Need-join-requires
 join-requires c κs =
-    let s = c .before .before .before .before .before .before .before .before .before .before in
+    let s = c .before .before .before .before .before .before .before in
     let a = s .args in
-    let N = s .pre .1 .1 .1 in
+    let N = s .pre .1 .1 .1 .1 in
     let t = c .before .before .before .put in
-    let m = c .before .before .before .before .before .before .mark-at .ensures in
-    let one = sym m ∙ c .before .before .before .before .before .if1 .left in
+    let one = s .pre .1 .1 .1 .0 in
     let w = t .last .1 .1 .1 .1 .1 .0 in
     let P = parts (a .g) (a .elevations .now) (a .work .now) (a .half) (a .c) (a .count) (s .pre .0) (s .pre .1 .0) (s .pre .1 .1 .0) N in
     let l = taken-long (a .g) (a .elevations .now) (a .work .now) (a .half) (a .c) (a .count) (s .pre .0) (s .pre .1 .0)
@@ -67,27 +51,26 @@ join-requires c κs =
 
 add-result : tie.Need-add-result
 add-result c =
-    let s = c .before .before .before .before .before .before .before .before .before .before .before .before .before in
+    let s = c .before .before .before .before .before .before .before .before .before .before in
     let a = s .args in
     let f = s .pre .0 .few in
     let h = few-ponds (a .g) (a .elevations .now) (a .work .now) (a .half) (a .c) (a .count) (s .pre .0) (s .pre .1 .0) (s .pre .1 .1 .0)
-    (s .pre .1 .1 .1) in
+    (s .pre .1 .1 .1 .1) in
     omega arith
 
-same-length-2 : tie.Need-same-length-2
-same-length-2 c = search needs
+same-length : tie.Need-same-length
+same-length c = search needs
 
-returns-2 : tie.Need-returns-2
-returns-2 c =
+returns : tie.Need-returns
+returns c =
     let b = c .before .before .before .before in
-    let s = b .before .before .before .before .before .before .before .before .before in
+    let s = b .before .before .before .before .before .before in
     let a = s .args in
     let t = b .before .before .put in
-    let m = b .before .before .before .before .before .mark-at .ensures in
-    let one = sym m ∙ b .before .before .before .before .if1 .left in
+    let one = s .pre .1 .1 .1 .0 in
     let j = c .before .before .join in
     numbered-on (a .g) (a .elevations .now) (a .work .now) (a .half) (a .c) (a .count) (s .pre .0) (s .pre .1 .0) (s .pre .1 .1 .0)
-    (s .pre .1 .1 .1) one (t .last .1 .1 .1 .1 .1 .0) (t .result) (t .ensures .1) (t .ensures .0) (j .last .1 .1 .1 .1 .1 .0)
+    (s .pre .1 .1 .1 .1) one (t .last .1 .1 .1 .1 .1 .0) (t .result) (t .ensures .1) (t .ensures .0) (j .last .1 .1 .1 .1 .1 .0)
     (j .ensures .0) (j .ensures .1)
 
 pub number-at-spec : {M : Type 1} → statement M
@@ -95,14 +78,11 @@ number-at-spec =
     tie.close
     (tie.spec
     mul-n
-    mark-at-requires
-    same-length
-    returns
     add-put
     add-put-2
     put-requires
     add-join
     join-requires
     add-result
-    same-length-2
-    returns-2)
+    same-length
+    returns)
