@@ -15,7 +15,8 @@ use Rattle.grid.specs.Checks.{accepted}
 use Rattle.grid.specs.Endings.{areNeighbours, isStray, firstStray, askList, endingCheck, RoutesJoin, AllRoutesJoin}
 use Rattle.grid_laws.proofs.Tests.{cond-true, or-false, and-false-right, not-of-true}
 use Rattle.grid_laws.proofs.Below.{any-of, first-none}
-use Rattle.route_laws.proofs.Whole.{on-sheet, every-ends, whole}
+use Rattle.route_laws.proofs.Receivers.{code-on}
+use Rattle.route_laws.proofs.Whole.{every-ends, whole}
 use Rattle.checks.proofs.Asked.{size-passes}
 use Rattle.ending_laws.proofs.Longest.{is-longest, turned}
 use Rattle.ending_laws.proofs.Meeting.{join, cell-live, cell-next}
@@ -28,7 +29,7 @@ module _ (g : Grid) (codes : List ℕ) (ok : Sound g codes) where
   live-at a i h = cell-live (hasCode codes) (receiver g codes) (size g) a i h
 
   within : (a i : ℕ) → i < length (route g codes a) → leb (size g) (getD (route g codes a) i 0) ≡ false
-  within a i h = lt-leb (size g) (getD (route g codes a) i 0) (on-sheet g codes (ok .long) (getD (route g codes a) i 0) (live-at a i h))
+  within a i h = lt-leb (size g) (getD (route g codes a) i 0) (code-on g codes (ok .long) (getD (route g codes a) i 0) (live-at a i h))
 
   -- the code of a cell points at the next
   next-touches : (a i : ℕ) → suc i < length (route g codes a) →

@@ -14,7 +14,7 @@ use Rattle.grid.specs.Below.{table}
 use Rattle.grid.specs.Sheet.{size}
 use Rattle.grid.specs.Routes.{firstEndless, firstBadStart, watersheds}
 use Rattle.grid_laws.proofs.Tests.{cond-true, cond-false}
-use Rattle.grid_laws.proofs.Below.{table-ext}
+use Rattle.grid_laws.proofs.Below.{positive, table-ext}
 use Rattle.route_laws.specs.Ends.{Ends, lastMark}
 use Rattle.route_laws.specs.Receivers.{receivers, nextIn, liveIn, liveOf, nextOf, Marks, AllCodes}
 use Rattle.route_laws.specs.Starts.{cut, startOf, OnRoutes}
@@ -30,10 +30,7 @@ cut-none n starts t c e = sym (ap (set t c) (cond-false n (getD t c 0) (le-ltb 0
 
 pub cut-one : (n : ℕ) (starts t : List ℕ) (c : ℕ) → (getD starts c 0 ≡ 0 → ⊥) →
     set t c n ≡ set t c (cond (ltb 0 (getD starts c 0)) n (getD t c 0))
-cut-one n starts t c f = ap (set t c) (sym (cond-true n (getD t c 0) (lt-ltb 0 (getD starts c 0) (above (getD starts c 0) f))))
-  where
-    above : (m : ℕ) → (m ≡ 0 → ⊥) → 0 < m
-    above m f = omega arith
+cut-one n starts t c f = ap (set t c) (sym (cond-true n (getD t c 0) (lt-ltb 0 (getD starts c 0) (positive (getD starts c 0) f))))
 
 -- the first i places are cut
 pub record CutTo (n : ℕ) (starts : List ℕ) (i : ℕ) (t₀ t : List ℕ) : Type 0 where
@@ -79,10 +76,7 @@ start-zero starts m e = sym (cond-false _ _ (le-ltb 0 m (omega arith)))
 
 pub start-at : (starts : List ℕ) (m : ℕ) → (m ≡ 0 → ⊥) → getD starts (m - 1) 0 ≡ startOf starts m
 unfolding startOf
-start-at starts m f = sym (cond-true _ _ (lt-ltb 0 m (above m f)))
-  where
-    above : (m : ℕ) → (m ≡ 0 → ⊥) → 0 < m
-    above m f = omega arith
+start-at starts m f = sym (cond-true _ _ (lt-ltb 0 m (positive m f)))
 
 -- ---- the whole
 module _ (g : Grid) (codes starts t₀ t₁ t₂ : List ℕ) (long : length codes ≡ size g) (same : length starts ≡ size g) (all : AllCodes codes)

@@ -1,10 +1,11 @@
 -- One start: what the walk down finds lies above n, so it can be written.
-use Prim.Native.Nat.{ℕ, _<_, _^_}
-use mathlib.Core.Path.{_≡_, refl, subst}
+use Prim.Native.Nat.{ℕ, _^_}
+use mathlib.Core.Path.{refl, subst}
 use mathlib.Core.Logic.{inl, inr}
 use native.Mathlib.Omega.{arith}
 use borrow.Author.Needs.{needs}
 use denote.Ref.{now}
+use Rattle.grid_laws.proofs.Below.{positive}
 use Rattle.route_laws.specs.Walking.{Descent}
 use Rattle.route_laws.proofs.Walking.{found-above, found-small}
 use Rattle.walk.proofs.walk_from.Statement.{statement}
@@ -50,11 +51,8 @@ settle-requires c κs =
     let s = c .before .before .before .before .before .before .before in
     let f = c .before .if2 .left in
     let h = found-above (s .args .n) (now (s .args .tail)) (s .args .start) (c .before .before .descend .result)
-    (c .before .before .descend .ensures) (above f) in
+    (c .before .before .descend .ensures) (positive _ f) in
     (s .pre .0, (s .pre .1 .0, (s .pre .1 .1, (h, c .before .before .before .before .if1 .left))))
-  where
-    above : {m : ℕ} → (m ≡ 0 → ⊥) → 0 < m
-    above f = omega arith
 
 same-length-2 : tie.Need-same-length-2
 same-length-2 c = search needs
@@ -64,11 +62,8 @@ returns-3 c =
     let k = c .before .before .before .before in
     inr (
       k .before .before .before .if1 .left,
-      (k .before .descend .result, above (k .if2 .left), k .before .descend .ensures, c .before .before .settle .ensures),
+      (k .before .descend .result, positive _ (k .if2 .left), k .before .descend .ensures, c .before .before .settle .ensures),
     )
-  where
-    above : {m : ℕ} → (m ≡ 0 → ⊥) → 0 < m
-    above f = omega arith
 
 pub walk-from-spec : {M : Type 1} → statement M
 walk-from-spec =
