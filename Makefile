@@ -2,7 +2,7 @@
 # make test       the gate: .ci/run
 # make lib        build/libtervuola.a
 # make install PREFIX=/usr/local    archive, header, pkg-config file
-# make examples   build/minimal, build/ponds, build/culvert, build/sides, build/shape, build/write, build/stream, build/crews, build/tile
+# make examples   build/minimal, build/ponds, build/culverts, build/sides, build/shape, build/write, build/stream, build/crews, build/tile
 # make bench      ratios to the expert's C (bench/run 12 1000 for other sides)
 # README.md says what each needs. CC, CXX, CFLAGS and DESTDIR are respected.
 PREFIX ?= /usr/local
@@ -56,12 +56,12 @@ install:
 	@printf '%s\n' "prefix=$(PREFIX)" 'Name: tervuola' 'Description: proved drainage of elevation sheets' 'Version: $(VERSION)' \
 	    'Cflags: -I"$${prefix}/include"' 'Libs: -L"$${prefix}/lib" -ltervuola' >"$(DESTDIR)$(PREFIX)/lib/pkgconfig/tervuola.pc"
 
-examples: compiler build/minimal build/ponds build/culvert build/sides build/shape build/write build/stream build/crews build/tile
+examples: compiler build/minimal build/ponds build/culverts build/sides build/shape build/write build/stream build/crews build/tile
 
 compiler:
 	@.ci/need $(firstword $(CC))
 
-build/minimal build/ponds build/culvert build/sides build/shape build/write build/stream build/crews build/tile: build/%: examples/%.c include/tervuola.h $(LIBRARY)
+build/minimal build/ponds build/culverts build/sides build/shape build/write build/stream build/crews build/tile: build/%: examples/%.c include/tervuola.h $(LIBRARY)
 	$(CC) -std=c99 $(CFLAGS) -Wall -Wextra -Wpedantic -Iinclude -o $@ $< $(LIBRARY) -lm
 
 bench:

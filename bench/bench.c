@@ -6,12 +6,13 @@
  * Prints, for each step and for the whole, the best of RUNS (default 3) of each side in nanoseconds of processor time for a
  * cell, and their ratio, library to baseline; and fails where a result differs. Buffers are written once before any clock
  * starts. The baseline's fill needs its outlets and its counts and labels need its ways, so these count with the steps that use
- * them: outlets with the fill, ways with the counts and with the labels. The baseline lists no ponds, opens no culvert and closes no
- * side: those lines have the library's own fill, and its own one call, in the baseline's place. The culvert lies at the elevation of
- * its cell, so that its results are those of the one call. The line "oblong" is the directions call with cells of 3 by 4 beside the same
- * with square ones, whose codes must be those of any square cells. The line "closed" is the one call with the south side alone open; of
- * its results no more is looked at than that nothing is filled lower than with every side open. The line "run" is a run without a turn,
- * which asks 11 and 12, beside the labels call, which asks them too; the line "turns" is of a small sheet of its own.
+ * them: outlets with the fill, ways with the counts and with the labels. The baseline lists no ponds, opens no culvert and closes
+ * no side: those lines have the library's own fill, and its own one call, in the baseline's place. The line "culverts" is a list of
+ * forty, spread over the sheet, each at its cell's elevation, so that the results are those of the one call. The line "oblong" is
+ * the directions call with cells of 3 by 4 beside the same with square ones, whose codes must be those of any square cells. The
+ * line "closed" is the one call with the south side alone open; of its results no more is looked at than that nothing is filled
+ * lower than with every side open. The line "run" is a run without a turn, which asks 11 and 12, beside the labels call, which asks
+ * them too; the line "turns" is of a small sheet of its own.
  */
 #define main baseline_main
 #include "baseline.c"
@@ -49,12 +50,17 @@ static void same_four(const char *call, struct four a, struct four b, size_t n)
     same(call, "a label", a.labels, b.labels, 4 * n);
 }
 
-static void accepted(tervuola_answer a)
+static void accepted_number(uint32_t number)
 {
-    if (a.number) {
-        fprintf(stderr, "bench: refused: %s\n", tervuola_text(a.number));
+    if (number) {
+        fprintf(stderr, "bench: refused: %s\n", tervuola_text(number));
         exit(1);
     }
+}
+
+static void accepted(tervuola_answer a)
+{
+    accepted_number(a.number);
 }
 
 enum { B_FILL, B_DIR, B_ACC, B_LAB, B_ALL, B_N };
@@ -133,6 +139,25 @@ static void turn_line(int runs)
            (turned - check) / best);
 }
 
+/* forty culverts spread over the sheet, each at the first data cell from its part's beginning on, round the sheet, and at the elevation there; gives
+ * how many: none where all is void */
+enum { CULVERTS = 40 };
+static size_t spread(struct sheet s, const int16_t *z, uint32_t *cells, int16_t *levels)
+{
+    size_t count = 0;
+    for (size_t k = 0; k < CULVERTS; k++) {
+        uint32_t cell = (uint32_t)((uint64_t)s.cells * k / CULVERTS), tries = 0;
+        while (tries < s.cells && z[cell] == TERVUOLA_VOID) {
+            cell = (cell + 1) % s.cells;
+            tries++;
+        }
+        if (tries == s.cells) break;
+        cells[count] = cell;
+        levels[count++] = z[cell];
+    }
+    return count;
+}
+
 int main(int argc, char **argv)
 {
     if (argc < 4) {
@@ -160,8 +185,9 @@ int main(int argc, char **argv)
     int times = n < 100000 ? (int)(2000000 / n) + 1 : 1;
     double base[B_N], ours[B_N], listed = 1e300, opened = 1e300, closed = 1e300, oblong = 1e300;
     const uint32_t all_but_south = TERVUOLA_CLOSED_WEST + TERVUOLA_CLOSED_EAST + TERVUOLA_CLOSED_NORTH;
-    uint32_t cell = s.cells / 2; /* the first data cell from the middle on, round the sheet */
-    for (size_t k = 1; k < n && z[cell] == TERVUOLA_VOID; k++) cell = (cell + 1) % s.cells;
+    uint32_t culvert_cells[CULVERTS];
+    int16_t culvert_levels[CULVERTS];
+    const size_t culverts = spread(s, z, culvert_cells, culvert_levels);
     for (int k = 0; k < B_N; k++) base[k] = ours[k] = 1e300;
     for (int run = 0; run < runs; run++) {
         double t[7] = { 0 }, u[6] = { 0 };
@@ -222,26 +248,22 @@ int main(int argc, char **argv)
                 fprintf(stderr, "bench: closed sides: a filled elevation is lower\n");
                 exit(1);
             }
-        if (z[cell] != TERVUOLA_VOID) {
-            double o = 0;
-            clear(library, n);
-            for (int k = 0; k < times; k++) {
-                double a = now();
-                accepted(tervuola_culvert(s.rows, s.cols, 0, 1, 1, z, n, cell, z[cell], f2, n, code2, n, acc2, n, lab2, n, work, work_len));
-                o += now() - a;
-            }
-            least(&opened, o);
-            same_four("the culvert", expert, library, n);
+        double o = 0;
+        clear(library, n);
+        for (int k = 0; k < times; k++) {
+            double a = now();
+            accepted_number(tervuola_culverts(s.rows, s.cols, 0, 1, 1, z, n, culvert_cells, culverts, culvert_levels, culverts, f2, n, code2, n, acc2, n, lab2, n,
+                                              work, work_len).number);
+            o += now() - a;
         }
+        least(&opened, o);
+        same_four("the culverts", expert, library, n);
         tervuola_counted found = { 0, 0, 0 };
         double a = now();
         for (int k = 0; k < times; k++)
             found = tervuola_ponds(s.rows, s.cols, 0, z, n, ponds, n, level, n, cells, n, volume, n, work, work_len);
         least(&listed, now() - a);
-        if (found.number) {
-            fprintf(stderr, "bench: refused: %s\n", tervuola_text(found.number));
-            exit(1);
-        }
+        accepted_number(found.number);
         uint64_t volumes = 0, differences = 0;
         for (uint32_t k = 0; k < found.count; k++) volumes += volume[k];
         for (size_t c = 0; c < n; c++) differences += (uint64_t)(f[c] - z[c]);
@@ -249,7 +271,7 @@ int main(int argc, char **argv)
     }
     for (int k = 0; k < B_N; k++) line(names[k], "baseline", base[k], ours[k], (double)n * times);
     line("ponds", "fill", ours[B_FILL], listed, (double)n * times);
-    if (z[cell] != TERVUOLA_VOID) line("culvert", "one call", ours[B_ALL], opened, (double)n * times);
+    line("culverts", "one call", ours[B_ALL], opened, (double)n * times);
     line("oblong", "square", ours[B_DIR], oblong, (double)n * times);
     line("closed", "one call", ours[B_ALL], closed, (double)n * times);
     tervuola_crews none = {0};

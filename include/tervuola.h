@@ -21,7 +21,7 @@
  * outlet, and no code points at it. Every void, outside or a gap, stays -32768 and has code 0, count 0 and label 0.
  *
  * CLOSED SIDES. A sheet cut from larger country goes on next door, and water at the cut does not leave. The calls that work out
- * outlets (fill, ponds, directions, drain, culvert) take a number from 0 to 15 for the sides that are closed: west 1, east 2,
+ * outlets (fill, ponds, directions, drain, culverts) take a number from 0 to 15 for the sides that are closed: west 1, east 2,
  * north 4, south 8, added up; with 0 every side is open. A border cell is an outlet only through an open side by a straight
  * step, or beside a void that is outside. An outlet's code is the first of 32, 2, 128, 8, 1, 4, 16, 64 whose step is one of these. One
  * open side is enough for a cell in the sheet's corner, data or void; voids that come to the border at closed sides alone are a gap. A
@@ -29,7 +29,7 @@
  * refused with 18; a sheet with no data cell is accepted under any sides. All other calls know no sides: those that see codes only
  * end a route at any step off the sheet.
  *
- * THE SHAPE OF CELLS. The calls that work out codes (directions, drain, culvert) take a cell's width, from west to east, and its
+ * THE SHAPE OF CELLS. The calls that work out codes (directions, drain, culverts) take a cell's width, from west to east, and its
  * height, from north to south, whole numbers from 1 to 1,000 each. A drop is divided by the width for east and west, by the height
  * for north and south, and by the square root of the sum of their squares for corners. Only the ratio of the two counts: 30 by 60
  * is 1 by 2, and square cells of any width are 1 by 1 (SquareCells, AnyUnit). Where the largest drops so divided are exactly equal,
@@ -56,7 +56,7 @@
 #include <stdint.h>
 
 #define TERVUOLA_VERSION_MAJOR 0
-#define TERVUOLA_VERSION_MINOR 10
+#define TERVUOLA_VERSION_MINOR 11
 #define TERVUOLA_VERSION_PATCH 0
 
 /* The void mark, and the eight direction codes. */
@@ -105,7 +105,7 @@ enum tervuola_number {
     TERVUOLA_TOO_MANY_CELLS = 4,  /* a sheet read from text, or written as text, has more than 2,304 cells */
     TERVUOLA_BAD_ROWS = 5,        /* rows not from 1 to 4,000 */
     TERVUOLA_BAD_COLS = 6,        /* columns not from 1 to 4,000 */
-    TERVUOLA_BAD_INPUT = 7,       /* an input sheet has not rows * columns elements */
+    TERVUOLA_BAD_INPUT = 7,       /* an input sheet has not rows * columns elements, or the two lists of culverts have unlike lengths */
     TERVUOLA_BAD_RESULT = 8,      /* a result sheet has not rows * columns elements (one read from text: has fewer), the columns
                                      have unlike lengths, or a text does not fit its buffer */
     TERVUOLA_SHORT_WORK = 9,      /* the work buffer has fewer than 4 * rows * columns elements */
@@ -114,8 +114,9 @@ enum tervuola_number {
     TERVUOLA_ENDLESS = 12,        /* a route does not end; place: the first cell with such a route */
     TERVUOLA_BAD_START = 13,      /* a start where the code is 0; place: the first such cell */
     TERVUOLA_SHORT_COLUMNS = 14,  /* the columns do not hold all pairs, or all ponds; place: their number */
-    TERVUOLA_BAD_CELL = 15,       /* the cell is no data cell of the sheet: a void, or off the sheet; place: the cell as given */
-    TERVUOLA_BAD_LEVEL = 16,      /* the level is -32768, or above the cell's elevation; place: the cell */
+    TERVUOLA_BAD_CELL = 15,       /* a culvert's cell is no data cell of the sheet: a void, or off the sheet; place: the culvert's
+                                     position in its list, from 0 */
+    TERVUOLA_BAD_LEVEL = 16,      /* a culvert's level is -32768, or above its cell's elevation; place: as for 15 */
     TERVUOLA_BAD_SIDES = 17,      /* the closed sides are a number above 15 */
     TERVUOLA_NO_OUTLET = 18,      /* a data cell has no chain of data cells to an outlet; place: the first such cell */
     TERVUOLA_BAD_LIST = 19,       /* a cell of a list lies outside the sheet, or is no neighbour of the one before it; place: the
@@ -147,7 +148,7 @@ typedef struct {
 
 typedef struct {
     uint32_t number;
-    size_t place; /* in a list, which may have more than 2^32 places */
+    size_t place; /* in a list, which may have more than 2^32 places; for 18 the cell */
 } tervuola_located;
 
 /* A part of a list: count cells, from the place at. */
@@ -200,7 +201,7 @@ static inline const char *tervuola_text(uint32_t number)
     case TERVUOLA_TOO_MANY_CELLS: return "a text may have at most 2304 cells";
     case TERVUOLA_BAD_ROWS: return "the rows are not from 1 to 4000";
     case TERVUOLA_BAD_COLS: return "the columns are not from 1 to 4000";
-    case TERVUOLA_BAD_INPUT: return "an input sheet has not rows * columns elements";
+    case TERVUOLA_BAD_INPUT: return "an input sheet has not rows * columns elements, or the lists of culverts have unlike lengths";
     case TERVUOLA_BAD_RESULT: return "a result buffer has the wrong length";
     case TERVUOLA_SHORT_WORK: return "the work buffer has fewer than 4 * rows * columns elements";
     case TERVUOLA_NO_LEVEL: return "a data cell has no way down: the sheet is not depressionless";
@@ -208,8 +209,8 @@ static inline const char *tervuola_text(uint32_t number)
     case TERVUOLA_ENDLESS: return "a route does not end";
     case TERVUOLA_BAD_START: return "a start lies on a cell without a direction code";
     case TERVUOLA_SHORT_COLUMNS: return "the columns do not hold all pairs or ponds";
-    case TERVUOLA_BAD_CELL: return "the cell is no data cell of the sheet";
-    case TERVUOLA_BAD_LEVEL: return "the level is the void mark or above the cell's elevation";
+    case TERVUOLA_BAD_CELL: return "a culvert's cell is no data cell of the sheet";
+    case TERVUOLA_BAD_LEVEL: return "a culvert's level is the void mark or above its cell's elevation";
     case TERVUOLA_BAD_SIDES: return "the closed sides are not from 0 to 15";
     case TERVUOLA_NO_OUTLET: return "a data cell has no chain to an outlet: its water cannot leave";
     case TERVUOLA_BAD_LIST: return "a cell of a list lies outside the sheet or is no neighbour of the one before it";
@@ -298,20 +299,28 @@ tervuola_answer tervuola_drain(uint32_t rows, uint32_t cols, uint32_t sides, uin
                                uint32_t *work, size_t work_len);
 
 /*
- * A culvert under a road bank: the four results of the sheet with the cell at the level. The elevations themselves are not changed.
- * cell: the number of a data cell, an outlet too. level: at most its elevation, and not the void; equal to it, it changes nothing.
- * Sides, shape and buffers as of tervuola_drain.
- * Numbers: 5 6 17 20 7 8 9 15 16 18. Promise: CulvertPromise, with demand 3 for every accepted culvert, the opened sheet being the
- * input.
+ * All culverts of a road: the four results of the sheet opened by a list of cells and levels. In the opened sheet a cell that is named
+ * has the lowest of the levels named for it, and every other cell its elevation; the elevations themselves are not changed. The order of
+ * the entries makes no difference to the four results, nor does an entry that is repeated. An empty list (null pointers will do) gives
+ * what tervuola_drain gives: number, place and results. One culvert is a list of one entry.
+ * cells, levels: two lists of one length, with any number of entries, only read; entry k has its cell and its level at place k. The cell
+ * must be a data cell, and may be an outlet. The level must not be the void nor above the cell's elevation in the sheet as it is handed
+ * in, whatever other entries name the cell; equal to that, it changes nothing. The first bad entry in the list decides: 15 if its cell is
+ * no data cell, else 16; its position in the list, from 0, is the place, and no entry is applied. Sides, shape and the other buffers as of
+ * tervuola_drain.
+ * Numbers: 5 6 17 20 7 8 9 15 16 18; 7 also where the two lists have unlike lengths. Promise: CulvertsPromise, with demand 3 for every
+ * accepted list, the opened sheet being the input; what is shown of lists: AnyOrder, SameFour, Reordered, LowestNamed, EmptyList and
+ * OneEntry (Entries.antt). Linear in the number of cells and the length of the list.
  */
-tervuola_answer tervuola_culvert(uint32_t rows, uint32_t cols, uint32_t sides, uint32_t width, uint32_t height,
-                                 const int16_t *elevations, size_t elevations_len,
-                                 uint32_t cell, int16_t level,
-                                 int16_t *filled, size_t filled_len,
-                                 uint8_t *codes, size_t codes_len,
-                                 uint32_t *counts, size_t counts_len,
-                                 uint32_t *labels, size_t labels_len,
-                                 uint32_t *work, size_t work_len);
+tervuola_located tervuola_culverts(uint32_t rows, uint32_t cols, uint32_t sides, uint32_t width, uint32_t height,
+                                   const int16_t *elevations, size_t elevations_len,
+                                   const uint32_t *cells, size_t cells_len,
+                                   const int16_t *levels, size_t levels_len,
+                                   int16_t *filled, size_t filled_len,
+                                   uint8_t *codes, size_t codes_len,
+                                   uint32_t *counts, size_t counts_len,
+                                   uint32_t *labels, size_t labels_len,
+                                   uint32_t *work, size_t work_len);
 
 /*
  * Watersheds from starts: the label of the first start on the cell's route, itself included, or 0.

@@ -1,9 +1,10 @@
-// Every call of libtervuola.a against the second program as it is after request 9, on its sheets, on sheets of ponds, on sheets cut from
-// larger ones, on sheets with gaps, under all closed sides, with cells of many shapes, on drops that tie by them, on random codes, on cells
-// and levels that are and are not there, on walks, routes and lists of any numbers, on lists of hand-ins, runs and collections from any
-// state of the crews, on damaged texts, and on wrong lengths. What is written is read again, and what is read is written again.
-//   compare ROUNDS [SEED]      sheets up to 5 by 5, each size under each number of closed sides, and each way to lay voids on 3 by 3 and
-//                              within the border of 5 by 5; then ROUNDS of sheets up to 40 by 40
+// Every call of libtervuola.a against the second program as it is after request 10, on its sheets, on sheets of ponds, on sheets cut from
+// larger ones, on sheets with gaps, under all closed sides, with cells of many shapes, on drops that tie by them, on random codes, on lists
+// of culverts, good and bad ones, on walks, routes and lists of any numbers, on lists of hand-ins, runs and collections from any state of
+// the crews, on damaged texts, and on wrong lengths. What is written is read again, and what is read is written again. Accepted culverts
+// are opened in other orders too, and an empty list of them is held against the one call.
+//   compare ROUNDS [SEED]      sheets up to 5 by 5, each size under each number of closed sides, each way to lay voids on 3 by 3 and
+//                              within the border of 5 by 5, and short lists of culverts; then ROUNDS of sheets up to 40 by 40
 //   compare big KIND SIDE      one large sheet, by the second program's fast layer; the kind "lakes" is one of gaps
 // A result buffer is lent with guard elements on both sides, and holds a pattern before the call; a no must leave it, and the work buffer
 // up to question 9, which 17 and 20 come before. The counts call must leave the first 2 * rows * cols places of the work buffer
@@ -14,7 +15,9 @@
 #include <array>
 #include <cstring>
 using namespace oracle;
-static const int REQUEST = 9;
+static const int REQUEST = 10;
+// before request 9, when every void was outside
+static const int BEFORE_GAPS = 8;
 
 static u64 checks = 0;
 static const char *part = "round";
@@ -28,10 +31,14 @@ template <class T> struct Lent {
   V<T> all;
   size_t n;
   static T pattern(size_t i) { return (T)(0x9E3779B97F4A5A17u * (i + 1) + 3); }
-  explicit Lent(size_t n) : all(n + 32), n(n) {
+  explicit Lent(size_t n) : all(n + 32), n(n) { renew(); }
+  // as before any call
+  void renew() {
     for (size_t i = 0; i < all.size(); i++)
       all[i] = pattern(i);
   }
+  // what is handed in stands between guards too
+  explicit Lent(const V<T> &in) : Lent(in.size()) { std::copy(in.begin(), in.end(), at()); }
   T *at() { return all.data() + 16; }
   V<T> list() const { return V<T>(all.begin() + 16, all.begin() + 16 + n); }
   bool guarded() const {
@@ -159,9 +166,8 @@ static V<u8> led_outside(const Desc &d, const V<i16> &e, bool corners, u64 but) 
     }
   return is;
 }
-// a cell that holds data and lies beside a gap, and beside no void that is outside
-static bool on_shore(const Desc &d, const V<i16> &e, u64 c) {
-  V<u8> out = fast::outside(d, e);
+// a cell that holds data and lies beside a gap, and beside no void that is outside; `out` has those
+static bool on_shore(const Desc &d, const V<i16> &e, const V<u8> &out, u64 c) {
   auto gap = [&](u64 j) { return e[j] == VOIDMARK && !out[j]; };
   return e[c] != VOIDMARK && beside(d, c, gap) && !beside(d, c, [&](u64 j) { return out[j] != 0; });
 }
@@ -178,7 +184,7 @@ static void voids_answer(const char *call, u32 number, const Desc &d, const V<i1
   auto &met = voids_met[call];
   const u64 n = d.n();
   if (number == 18) {
-    LEVEL = REQUEST - 1;
+    LEVEL = BEFORE_GAPS;
     met[ISLAND] += d.closed != 15 && first_stranded(d, e) == n;
     LEVEL = REQUEST;
     return;
@@ -394,37 +400,58 @@ static void pour_points_round(const Desc &d, const V<i16> &e0, gen::Rng &g, Leng
   same_list("pour_points", "the elevations", z, wz, round);
   same_list("pour_points", "the cells", c, wc, round);
 }
-// A call for the four results; `said` is the second program's answer to it. The sheet handed in must stay as it was. Gives the number and the
-// filled sheet.
-struct Filled {
+// what a call for the four results lends: where lengths are wrong, often that of the work buffer alone
+struct FourLent {
+  Lent<i16> filled;
+  Lent<u8> codes;
+  Lent<u32> counts, labels, work;
+  FourLent(size_t cells, Lengths len) : FourLent(cells, Lengths{len.g, len.wrong && len.g.chance(60)}, len) {}
+  FourLent(size_t cells, Lengths results, Lengths room)
+      : filled(results.of(cells)), codes(results.of(cells)), counts(results.of(cells)), labels(results.of(cells)), work(room.work(cells)) {}
+  void renew() {
+    filled.renew();
+    codes.renew();
+    counts.renew();
+    labels.renew();
+    work.renew();
+  }
+  bool fits(u64 n) const { return filled.n == n && codes.n == n && counts.n == n && labels.n == n; }
+  Four four() const {
+    Four f;
+    f.filled = filled.list();
+    f.codes = codes.list();
+    f.counts = counts.list();
+    f.labels = labels.list();
+    return f;
+  }
+};
+static void same_four(const char *name, u32 number, const FourLent &lent, const Four &want, u64 round) {
+  same_list(name, "the filled sheet", lent.filled, want.filled, round);
+  same_list(name, "the codes", lent.codes, want.codes, round);
+  same_list(name, "the counts", lent.counts, want.counts, round);
+  same_list(name, "the labels", lent.labels, want.labels, round);
+  same_work(name, number, lent.work, round);
+}
+// A call for the four results; `said` is the second program's answer to it. The sheet handed in must stay as it was. Gives the answer and what was lent
+// for the results as the call left it.
+struct Answered {
   u32 number;
-  V<i16> filled;
-  V<u8> codes;
+  u64 place;
+  Four four;
 };
 template <class Call, class Said>
-static Filled four_round(const char *name, Call call, Said said, const Desc &d, const V<i16> &e, size_t cells, Lengths len, u64 round) {
-  Lent<i16> f(len.of(cells));
-  Lent<u8> k(len.of(cells));
-  Lent<u32> n(len.of(cells)), l(len.of(cells)), work(len.work(cells));
+static Answered four_round(const char *name, Call call, Said said, const Desc &d, const V<i16> &e, FourLent &lent, u64 round) {
   V<i16> input(e);
-  Four want;
-  want.filled = f.list();
-  want.codes = k.list();
-  want.counts = n.list();
-  want.labels = l.list();
-  Reply r = said(want, work.n);
-  tervuola_answer a = call(f, k, n, l, work);
+  Four want = lent.four();
+  Reply r = said(want, lent.work.n);
+  auto a = call();
   same_answer(name, a.number, a.place, r, round);
-  same_list(name, "the filled sheet", f, want.filled, round);
-  same_list(name, "the codes", k, want.codes, round);
-  same_list(name, "the counts", n, want.counts, round);
-  same_list(name, "the labels", l, want.labels, round);
-  same_work(name, a.number, work, round);
+  same_four(name, a.number, lent, want, round);
   if (e != input)
     fail(name, "the sheet handed in", round);
   answers[name][a.number]++;
-  outlets_answer(name, a.number, d, e, f.n == d.n() && k.n == d.n() && n.n == d.n() && l.n == d.n(), work, true);
-  return {a.number, f.list(), k.list()};
+  outlets_answer(name, a.number, d, e, lent.fits(d.n()), lent.work, true);
+  return {a.number, a.place, want};
 }
 // accepted sheets with a cell on the border that is no outlet and flows inward, and of these the ones where such a cell has water on it,
 // and where it has no lower neighbour on the filled sheet
@@ -446,7 +473,7 @@ static void closed_border(const Desc &d, const V<i16> &e, const V<i16> &filled) 
 // accepted sheets with gaps: those where a cell on the shore of one has water on it, and where one has no lower neighbour, and those with other codes than
 // if every void were outside
 static u64 wet_shores = 0, flat_shores = 0, other_ways = 0;
-static void shores(const Desc &d, const V<i16> &e, const Filled &r) {
+static void shores(const Desc &d, const V<i16> &e, const Four &r) {
   const V<u8> out = fast::outside(d, e), outlets = fast::outlets(d, e);
   auto gap = [&](u64 c) { return e[c] == VOIDMARK && !out[c]; };
   bool gaps = false, wet = false, flat = false;
@@ -461,69 +488,412 @@ static void shores(const Desc &d, const V<i16> &e, const Filled &r) {
     return;
   wet_shores += wet;
   flat_shores += flat;
-  LEVEL = REQUEST - 1;
+  LEVEL = BEFORE_GAPS;
   V<u8> codes;
   directions(d, oracle::fill(d, e), codes);
   LEVEL = REQUEST;
   other_ways += codes != r.codes;
 }
+// a list of culverts: entry k is the cell and the level at place k
+struct Culverts {
+  V<u32> cells;
+  V<i16> levels;
+  u64 count() const { return cells.size(); }
+  void add(u32 cell, i16 level) {
+    cells.push_back(cell);
+    levels.push_back(level);
+  }
+};
+// the sheet and the lists handed in must stay as they were, whatever is answered
+static tervuola_located open_culverts(const Desc &d, const V<i16> &e, const Culverts &l, FourLent &lent, u64 round) {
+  V<i16> input(e);
+  Lent<u32> cells(l.cells);
+  Lent<i16> levels(l.levels);
+  auto given = [&](auto &list) { return list.n || round % 2 ? list.at() : nullptr; };
+  tervuola_located a = tervuola_culverts((u32)d.rows, (u32)d.cols, (u32)d.closed, (u32)d.width, (u32)d.height, e.data(), e.size(), given(cells), cells.n,
+                                         given(levels), levels.n, lent.filled.at(), lent.filled.n, lent.codes.at(), lent.codes.n, lent.counts.at(),
+                                         lent.counts.n, lent.labels.at(), lent.labels.n, lent.work.at(), lent.work.n);
+  same_list("culverts", "the cells handed in", cells, l.cells, round);
+  same_list("culverts", "the levels handed in", levels, l.levels, round);
+  if (e != input)
+    fail("culverts", "the sheet handed in", round);
+  return a;
+}
 static void drain_round(const Desc &d, const V<i16> &e0, Lengths len, u64 round) {
   V<i16> e = resized(e0, len.of(e0.size()));
-  Filled r = four_round(
+  FourLent lent(e0.size(), len);
+  Answered r = four_round(
       "drain",
-      [&](Lent<i16> &f, Lent<u8> &k, Lent<u32> &n, Lent<u32> &l, Lent<u32> &work) {
-        return tervuola_drain((u32)d.rows, (u32)d.cols, (u32)d.closed, (u32)d.width, (u32)d.height, e.data(), e.size(), f.at(), f.n, k.at(), k.n,
-                              n.at(), n.n, l.at(), l.n, work.at(), work.n);
+      [&] {
+        return tervuola_drain((u32)d.rows, (u32)d.cols, (u32)d.closed, (u32)d.width, (u32)d.height, e.data(), e.size(), lent.filled.at(), lent.filled.n,
+                              lent.codes.at(), lent.codes.n, lent.counts.at(), lent.counts.n, lent.labels.at(), lent.labels.n, lent.work.at(), lent.work.n);
       },
-      [&](Four &want, u64 work) { return call_four(d, e, want, work); }, d, e, e0.size(), len, round);
+      [&](Four &want, u64 work) { return call_four(d, e, want, work); }, d, e, lent, round);
+  // "An empty list gives the plain results", and refusals
+  lent.renew();
+  tervuola_located a = open_culverts(d, e, {}, lent, round);
+  checks++;
+  if (a.number != r.number || a.place != r.place)
+    fail("no culvert", "the answer of the one call", round);
+  same_four("no culvert", a.number, lent, r.four, round);
+  answers["no culvert"][a.number]++;
   if (r.number == 0) {
-    closed_border(d, e, r.filled);
-    shores(d, e, r);
+    closed_border(d, e, r.four.filled);
+    shores(d, e, r.four);
   }
 }
-// A cell of a sheet: mostly one that is not `none`, now and then any cell or one off the sheet.
-template <class T> static u32 some_cell(gen::Rng &g, const V<T> &e, T none) {
-  if (g.chance(5)) {
-    static const u32 off[] = {0, 1, 65536, 2147483648u, 4294967295u};
-    u32 past = off[g.below(5)];
-    return past > 1 ? past : (u32)e.size() + past;
-  }
-  u32 cell = e.empty() ? 0 : (u32)g.below(e.size());
-  for (int tries = 0; g.chance(95) && tries < 20 && !e.empty() && e[cell] == none; tries++)
-    cell = (u32)g.below(e.size());
-  return cell;
-}
-// a level for a culvert: below, equal, above, or any
-static i16 some_level(gen::Rng &g, i16 z) {
-  if (g.chance(60)) // below, as far down as there is a number
-    return (i16)std::max<i64>(-32767, (i64)z - (i64)(g.chance(70) ? 1 + g.below(9) : 1 + g.below(65535)));
-  if (g.chance(50))
+
+// ---- lists of culverts
+
+// a sheet with more cells is one of the large ones
+static const u64 LARGE = 10000;
+// a level that a culvert may have at this elevation: it, a bit below, or as far down as there is a number
+static i16 good_level(gen::Rng &g, i16 z) {
+  if (g.chance(20))
     return z;
-  if (g.chance(30))
-    return VOIDMARK;
-  return g.chance(60) ? (i16)std::min<i64>(32767, (i64)z + 1 + (i64)g.below(3)) : (i16)g.in(-32768, 32767);
+  return (i16)std::max<i64>(-32767, (i64)z - (i64)(g.chance(70) ? 1 + g.below(9) : 1 + g.below(65535)));
 }
-// cells opened to a lower level, those of them on the border, on the shore of a gap, and those whose culvert lowers the filled sheet elsewhere
-static u64 opened_lower = 0, opened_border = 0, opened_shores = 0, opened_banks = 0;
-static void culvert_round(const Desc &d, const V<i16> &e0, gen::Rng &g, Lengths len, u64 round) {
-  V<i16> e = resized(e0, len.of(e0.size()));
-  u32 cell = some_cell(g, e0, VOIDMARK);
-  i16 level = some_level(g, cell < e0.size() ? e0[cell] : (i16)0);
-  Filled r = four_round(
-      "culvert",
-      [&](Lent<i16> &f, Lent<u8> &k, Lent<u32> &n, Lent<u32> &l, Lent<u32> &work) {
-        return tervuola_culvert((u32)d.rows, (u32)d.cols, (u32)d.closed, (u32)d.width, (u32)d.height, e.data(), e.size(), cell, level, f.at(), f.n,
-                                k.at(), k.n, n.at(), n.n, l.at(), l.n, work.at(), work.n);
-      },
-      [&](Four &want, u64 work) { return call_culvert(d, e, V<u64>{cell}, V<i16>{level}, want, work); }, d, e, e0.size(), len, round);
-  if (r.number == 0 && level < e[cell]) {
-    opened_lower++;
-    opened_border += on_border(d, cell);
-    opened_shores += on_shore(d, e, cell);
-    V<i16> plain = oracle::fill(d, e);
-    plain[cell] = r.filled[cell];
-    opened_banks += plain != r.filled;
+// and one that it may not have
+static i16 bad_level(gen::Rng &g, i16 z) {
+  if (z == 32767 || g.chance(40))
+    return VOIDMARK;
+  return g.chance(70) ? (i16)std::min<i64>(32767, (i64)z + 1 + (i64)g.below(3)) : (i16)g.in((i64)z + 1, 32767);
+}
+// a cell that no culvert may have: a void, or one off the sheet, such as a data cell's number and more bits
+static u32 bad_cell(gen::Rng &g, const V<i16> &e, u32 cell) {
+  for (int tries = 0; tries < 10 && g.chance(60) && !e.empty(); tries++) {
+    u32 c = (u32)g.below(e.size());
+    if (e[c] == VOIDMARK)
+      return c;
   }
+  const u32 off[] = {(u32)e.size(), (u32)e.size() + 1, cell | 65536u, cell | 2147483648u, 2147483648u, 4294967295u};
+  return off[g.below(6)];
+}
+// Entries that a list has at this sheet's elevations, all of them good: at any data cells or at a few of them that lie beside each other, with some cells
+// named more than once, at levels near each other. Without a data cell none is good.
+static Culverts good_culverts(gen::Rng &g, const V<i16> &e, u64 count) {
+  V<u32> data;
+  for (u64 c = 0; c < e.size(); c++)
+    if (e[c] != VOIDMARK)
+      data.push_back((u32)c);
+  Culverts l;
+  u64 from = g.below(data.size()), range = data.size() <= LARGE && g.chance(50) ? 1 + g.below(4) : data.size();
+  for (u64 k = 0; k < count; k++) {
+    if (data.empty()) {
+      l.add(bad_cell(g, e, 0), (i16)g.in(-32768, 9));
+    } else if (k && g.chance(35)) {
+      u64 j = g.below(k);
+      i64 near = (i64)l.levels[j] + g.in(-2, 2);
+      l.add(l.cells[j], (i16)std::min<i64>(e[l.cells[j]], std::max<i64>(-32767, near)));
+    } else {
+      u32 c = data[(from + g.below(range)) % data.size()];
+      l.add(c, good_level(g, e[c]));
+    }
+  }
+  return l;
+}
+// one entry made bad, at the first place, the last or any: by its cell, its level, or both; or by a level above the elevation that is below another
+// one of the same cell, which is bad too
+static void spoil(gen::Rng &g, const V<i16> &e, Culverts &l) {
+  u64 place = g.below(3), k = place == 0 ? 0 : place == 1 ? l.count() - 1 : g.below(l.count()), j = g.below(l.count());
+  u32 cell = l.cells[k];
+  i16 level = bad_level(g, cell < e.size() ? e[cell] : (i16)0);
+  u64 kind = g.below(6);
+  if (kind < 3)
+    l.cells[k] = bad_cell(g, e, cell);
+  if (kind == 2)
+    l.levels[k] = VOIDMARK;
+  if (kind > 2)
+    l.levels[k] = level;
+  if (kind == 5 && j != k && level != VOIDMARK && level < 32767) {
+    l.cells[j] = cell;
+    l.levels[j] = (i16)(level + 1);
+  }
+}
+// how many: none, one, two, a few, dozens, more than there are cells, or thousands
+static u64 some_count(gen::Rng &g, const V<i16> &e) {
+  u64 kind = g.below(100), n = e.size();
+  if (kind < 50 && std::count(e.begin(), e.end(), VOIDMARK) == (i64)n)
+    return 0;
+  return kind < 8 ? 0 : kind < 28 ? 1 : kind < 43 ? 2 : kind < 83 ? 3 + g.below(6) : kind < 95 ? 12 + g.below(36) : kind < 98 ? n + 1 + g.below(n + 1) : 1000 + g.below(3000);
+}
+// Forty of a road: twenty from the west side on that make a ditch, level and as low as its lowest cell, so that ponds beside it fall; and twenty anywhere.
+static Culverts forty_culverts(gen::Rng &g, const Desc &d, const V<i16> &e) {
+  const u64 from = d.rows / 2 * d.cols;
+  i16 lowest = 32767;
+  Culverts l, any = good_culverts(g, e, 40);
+  for (u64 c = from; c < from + 20; c++)
+    if (e[c] != VOIDMARK)
+      lowest = std::min(lowest, e[c]);
+  for (u64 c = from; c < from + 20; c++)
+    if (e[c] != VOIDMARK)
+      l.add((u32)c, lowest);
+  for (u64 k = l.count(); k < 40; k++)
+    l.add(any.cells[k], any.levels[k]);
+  return l;
+}
+static Culverts some_culverts(gen::Rng &g, const Desc &d, const V<i16> &e, Lengths len) {
+  if (e.size() > LARGE)
+    return forty_culverts(g, d, e);
+  Culverts l = good_culverts(g, e, some_count(g, e));
+  if (l.count() && g.chance(30))
+    for (u64 k = 1 + g.below(3); k > 0; k--)
+      spoil(g, e, l);
+  if (len.wrong && g.chance(30)) { // lists of unlike lengths
+    u64 more = 1 + g.below(3);
+    switch (g.below(4)) {
+    case 0:
+      l.levels.resize(l.count() - std::min(l.count(), more));
+      break;
+    case 1:
+      l.levels.resize(l.count() + more, (i16)g.in(-32768, 0));
+      break;
+    case 2:
+      l.cells.clear();
+      break;
+    case 3:
+      l.levels.clear();
+      break;
+    }
+  }
+  return l;
+}
+// the same entries in another order, and some of them again
+static Culverts shuffled(gen::Rng &g, const Culverts &l, u64 again) {
+  Culverts r(l);
+  for (u64 k = 0; k < again; k++) {
+    u64 j = g.below(l.count());
+    r.add(l.cells[j], l.levels[j]);
+  }
+  for (u64 k = r.count(); k > 1; k--) {
+    u64 j = g.below(k);
+    std::swap(r.cells[k - 1], r.cells[j]);
+    std::swap(r.levels[k - 1], r.levels[j]);
+  }
+  return r;
+}
+
+// What lists there were. Accepted: by length, and with a cell whose lowest level comes first of all that are named for it, between the others, and last; the
+// first two have a level above one that was named before it. Refused, of three entries or more, by the bad entry's number and place. And refused where a later
+// entry has the other number, where one entry is bad by both, where good entries before it would open a cell, and with 16 where another entry names the cell
+// at a higher level still. Refused with 7 by their lengths alone.
+enum Listed {
+  NO_ENTRY, ONE_ENTRY, TWO_ENTRIES, DOZENS, OVER_SHEET, THOUSANDS, LOWEST_FIRST, LOWEST_AMID, LOWEST_LAST,
+  CELL_FIRST, CELL_AMID, CELL_LAST, LEVEL_FIRST, LEVEL_AMID, LEVEL_LAST, CELL_THEN_LEVEL, LEVEL_THEN_CELL, BOTH_AT_ONCE, AFTER_GOOD, BELOW_ANOTHER,
+  FEWER_LEVELS, MORE_LEVELS, NO_CELLS, NO_LEVELS, LISTED
+};
+static const char *const LISTED_NAMES[LISTED] = {
+    "none", "one", "two", "dozens", "more than cells", "thousands", "a cell's lowest level first", "amid", "last",
+    "15 at the first place", "amid", "at the last", "16 at the first place", "amid", "at the last", "15 and later 16", "16 and later 15", "both in one entry",
+    "after one that would open a cell", "a level below another one of the cell", "fewer levels than cells", "more", "no cell", "no level"};
+static std::array<u64, LISTED> listed;
+static bool every_kind_of_list(u64 least) {
+  bool all = true;
+  printf("compare: lists of culverts:");
+  for (int k = 0; k < LISTED; k++) {
+    printf("%s  %s: %llu", k == CELL_FIRST ? "; refused:" : k == FEWER_LEVELS ? "; of unlike lengths:" : "", LISTED_NAMES[k], (unsigned long long)listed[k]);
+    all = all && listed[k] && listed[k] >= least;
+  }
+  printf("\n");
+  return all;
+}
+// 15 or 16 by which entry k is bad on this sheet, or 0
+static u32 bad_entry(const V<i16> &e, const Culverts &l, u64 k) {
+  u32 c = l.cells[k];
+  return c >= e.size() || e[c] == VOIDMARK ? 15 : l.levels[k] == VOIDMARK || l.levels[k] > e[c] ? 16 : 0;
+}
+static void list_accepted(u64 n, const Culverts &l) {
+  listed[NO_ENTRY] += l.count() == 0;
+  listed[ONE_ENTRY] += l.count() == 1;
+  listed[TWO_ENTRIES] += l.count() == 2;
+  listed[DOZENS] += l.count() >= 12 && l.count() < 100;
+  listed[OVER_SHEET] += l.count() > n;
+  listed[THOUSANDS] += l.count() >= 1000;
+  struct Named {
+    i16 first, lowest, last;
+  };
+  std::map<u32, Named> named;
+  for (u64 k = 0; k < l.count(); k++) {
+    i16 z = l.levels[k];
+    auto put = named.insert({l.cells[k], {z, z, z}});
+    Named &m = put.first->second;
+    m.lowest = std::min(m.lowest, z);
+    m.last = z;
+  }
+  bool first = false, amid = false, last = false;
+  for (auto &cell : named) {
+    const Named &m = cell.second;
+    first = first || (m.lowest == m.first && m.lowest < m.last);
+    amid = amid || (m.lowest < m.first && m.lowest < m.last);
+    last = last || (m.lowest < m.first && m.lowest == m.last);
+  }
+  listed[LOWEST_FIRST] += first;
+  listed[LOWEST_AMID] += amid;
+  listed[LOWEST_LAST] += last;
+}
+static void list_refused(const V<i16> &e, const Culverts &l, u32 number, u64 place) {
+  bool opens = false, other = false, above = false;
+  for (u64 k = 0; k < place; k++)
+    opens = opens || l.levels[k] < e[l.cells[k]];
+  for (u64 k = place + 1; k < l.count(); k++)
+    other = other || bad_entry(e, l, k) == 31 - number;
+  for (u64 k = 0; k < l.count(); k++)
+    above = above || (l.cells[k] == l.cells[place] && l.levels[k] > l.levels[place]);
+  if (l.count() >= 3)
+    listed[(number == 15 ? CELL_FIRST : LEVEL_FIRST) + (place == 0 ? 0 : place + 1 < l.count() ? 1 : 2)]++;
+  listed[number == 15 ? CELL_THEN_LEVEL : LEVEL_THEN_CELL] += other;
+  listed[BOTH_AT_ONCE] += number == 15 && l.levels[place] == VOIDMARK;
+  listed[AFTER_GOOD] += opens;
+  listed[BELOW_ANOTHER] += number == 16 && l.levels[place] != VOIDMARK && above;
+}
+// the answers that more than one question has to do with: lists of unlike lengths beside the others, and a bad entry beside a wrong length
+static void list_answer(const Desc &d, const V<i16> &e, const Culverts &l, const FourLent &lent, const Answered &r) {
+  const u64 both = std::min(l.cells.size(), l.levels.size());
+  const bool unlike = l.cells.size() != l.levels.size(), right = r.number != 5 && r.number != 6 && e.size() == d.n();
+  u64 bad = 0;
+  while (right && bad < both && !bad_entry(e, l, bad))
+    bad++;
+  const u32 number = right && bad < both ? bad_entry(e, l, bad) : 0;
+  auto &met = before[unlike ? "lists of unlike lengths" : "culverts"];
+  if (unlike && (r.number < 7 || r.number == 17 || r.number == 20))
+    met[{r.number, 7}]++;
+  if (unlike && r.number == 7 && right) {
+    met[{7, 8}] += !lent.fits(d.n());
+    met[{7, 9}] += lent.work.n < 4 * d.n();
+    met[{7, number}]++;
+    listed[FEWER_LEVELS] += l.levels.size() < l.cells.size();
+    listed[MORE_LEVELS] += l.levels.size() > l.cells.size();
+    listed[NO_CELLS] += l.cells.empty();
+    listed[NO_LEVELS] += l.levels.empty();
+  }
+  if (!unlike && number && (r.number == 8 || r.number == 9))
+    met[{r.number, number}]++;
+  if (r.number == 0)
+    list_accepted(d.n(), l);
+  if (r.number == 15 || r.number == 16)
+    list_refused(e, l, r.number, r.place);
+}
+// cells opened to a lower level, those of them on the border and on the shore of a gap; lists that lower the filled sheet where they open no cell
+static u64 opened_lower = 0, opened_border = 0, opened_shores = 0, opened_banks = 0;
+static void count_opened(const Desc &d, const V<i16> &e, const Culverts &l, const V<i16> &filled) {
+  V<i16> plain = oracle::fill(d, e);
+  const V<u8> out = fast::outside(d, e);
+  std::set<u32> cells;
+  for (u64 k = 0; k < l.count(); k++)
+    if (l.levels[k] < e[l.cells[k]])
+      cells.insert(l.cells[k]);
+  for (u32 c : cells) {
+    opened_lower++;
+    opened_border += on_border(d, c);
+    opened_shores += on_shore(d, e, out, c);
+    plain[c] = filled[c];
+  }
+  opened_banks += plain != filled;
+}
+// A list against the second program; if it is accepted, the same entries in another order, and with some of them again, must leave the same results: on a
+// large sheet both at once.
+static void list_round(const Desc &d, const V<i16> &e, const Culverts &l, FourLent lent, gen::Rng &g, u64 round) {
+  Answered r = four_round(
+      "culverts", [&] { return open_culverts(d, e, l, lent, round); },
+      [&](Four &want, u64 work) { return call_culvert(d, e, V<u64>(l.cells.begin(), l.cells.end()), l.levels, want, work); }, d, e, lent, round);
+  list_answer(d, e, l, lent, r);
+  if (r.number || !l.count())
+    return;
+  count_opened(d, e, l, r.four.filled);
+  for (u64 again : {(u64)0, 1 + g.below(l.count())}) {
+    if (!again && d.n() > LARGE)
+      continue;
+    lent.renew();
+    tervuola_located a = open_culverts(d, e, shuffled(g, l, again), lent, round);
+    checks++;
+    if (a.number || a.place)
+      fail("culverts in another order", "the answer", round);
+    same_four("culverts in another order", a.number, lent, r.four, round);
+  }
+}
+static void culverts_round(const Desc &d, const V<i16> &e0, gen::Rng &g, Lengths len, u64 round) {
+  V<i16> e = resized(e0, len.of(e0.size()));
+  Culverts l = some_culverts(g, d, e0, len);
+  list_round(d, e, l, FourLent(e0.size(), len), g, round);
+}
+// Every list of up to two or three entries on sheets of two or three cells, with cells on the sheet and just off it, and with the void and the elevations, one
+// less and one more, as levels; those of up to two also with a cell or a level too few. Then lists of more entries than 16 bits count, one with the lowest level amid, and
+// one with a bad entry at its end.
+static void small_culverts() {
+  struct Sheet {
+    u64 rows, cols, closed;
+    V<i16> e;
+    u64 most;
+  };
+  const Sheet sheets[] = {{1, 2, 0, {0, 1}, 3},
+                          {2, 1, 0, {VOIDMARK, 1}, 3},
+                          {1, 2, 0, {-32767, 32767}, 3},
+                          {1, 3, WEST + NORTH + SOUTH, {0, 2, 1}, 2},
+                          {3, 1, WEST + EAST + SOUTH, {1, VOIDMARK, 3}, 2},
+                          {1, 2, 15, {0, 1}, 2},
+                          {1, 2, 15, {VOIDMARK, VOIDMARK}, 2}};
+  ENGINE = LITERAL;
+  part = "short list of culverts";
+  gen::Rng g(1);
+  Lengths len{g, false};
+  u64 i = 0;
+  for (auto &s : sheets) {
+    Desc d;
+    d.rows = s.rows;
+    d.cols = s.cols;
+    d.closed = s.closed;
+    const FourLent lent(d.n(), len);
+    std::set<i64> levels{VOIDMARK};
+    for (i64 z : s.e)
+      for (i64 level = z - 1; level <= z + 1; level++)
+        if (level >= VOIDMARK && level <= 32767)
+          levels.insert(level);
+    V<Culverts> all{{}};
+    for (size_t k = 0; k < all.size(); k++)
+      for (u32 c = 0; c <= d.n() && all[k].count() < s.most; c++)
+        for (i64 level : levels) {
+          all.push_back(all[k]);
+          all.back().add(c, (i16)level);
+        }
+    for (auto &l : all) {
+      list_round(d, s.e, l, lent, g, ++i);
+      if (l.count() == 0 || l.count() == 3)
+        continue;
+      Culverts fewer_levels(l), fewer_cells(l);
+      fewer_levels.levels.pop_back();
+      fewer_cells.cells.pop_back();
+      list_round(d, s.e, fewer_levels, lent, g, ++i);
+      list_round(d, s.e, fewer_cells, lent, g, ++i);
+    }
+  }
+  Desc d;
+  d.rows = 1;
+  d.cols = 3;
+  d.closed = WEST + NORTH + SOUTH;
+  const V<i16> e{0, 9, 1};
+  Culverts l;
+  for (u32 k = 0; k < 70000; k++)
+    l.add(k % 3, k % 3 == 1 ? (i16)(k == 67000 ? 3 : 4 + k % 5) : e[k % 3]);
+  list_round(d, e, l, FourLent(3, len), g, ++i);
+  u64 refused = answers["culverts"][16];
+  l.levels.back() = 1; // of cell 0
+  list_round(d, e, l, FourLent(3, len), g, ++i);
+  if (answers["culverts"][16] != refused + 1)
+    fail("culverts", "that the last of many entries is refused", i);
+  part = "round";
+}
+// On a large sheet: each data cell at its elevation and some of them lower, as many entries as there are data cells in falling order; then with the last of them
+// off the sheet. The largest sheets would need more room than the test should take.
+static void long_list_of_culverts(const Desc &d, const V<i16> &e, gen::Rng &g, Lengths len) {
+  if (d.n() > 1000000)
+    return;
+  Culverts l;
+  for (u64 c = d.n(); c-- > 0;)
+    if (e[c] != VOIDMARK)
+      l.add((u32)c, g.chance(1) ? good_level(g, e[c]) : e[c]);
+  list_round(d, e, l, FourLent(d.n(), len), g, 0);
+  l.cells.back() = (u32)d.n();
+  list_round(d, e, l, FourLent(d.n(), len), g, 0);
 }
 // Sheets of ponds, at any height and with voids now and then.
 enum Form { PITS, DIAGONALS, RINGS, BLOCKS, DEEPEST, FORMS };
@@ -1263,6 +1633,18 @@ static void collect_round(Traces &t, u32 crew, u64 round) {
   statuses[a.status] += a.number == 0;
   long_words += a.status == 2 && long_word;
 }
+// a cell: mostly one with a code, now and then any or one off the sheet
+static u32 some_cell(gen::Rng &g, const V<u8> &codes) {
+  if (g.chance(5)) {
+    static const u32 off[] = {0, 1, 65536, 2147483648u, 4294967295u};
+    u32 past = off[g.below(5)];
+    return past > 1 ? past : (u32)codes.size() + past;
+  }
+  u32 cell = codes.empty() ? 0 : (u32)g.below(codes.size());
+  for (int tries = 0; g.chance(95) && tries < 20 && !codes.empty() && !codes[cell]; tries++)
+    cell = (u32)g.below(codes.size());
+  return cell;
+}
 static u32 some_crew(gen::Rng &g) {
   static const u32 above[] = {32, 33, 63, 64, 255, 256, 65536, 2147483648u, 4294967264u, 4294967295u};
   return g.chance(6) ? above[g.below(10)] : (u32)g.below(g.chance(60) ? 4 : 32);
@@ -1285,7 +1667,7 @@ static V<u64> some_state(gen::Rng &g, const V<u8> &codes, u64 kind) {
   const u64 total[] = {0, 4294967295u, TOP - g.below(99), TOP - 1, TOP, g.g()};
   bool lost = g.chance(15);
   for (u64 k = 0; k < 32; k++) {
-    u32 cell = some_cell(g, codes, (u8)0);
+    u32 cell = some_cell(g, codes);
     w[k] = status[g.below(13)];
     if (w[k] == 1 && !lost && no_route(codes, cell))
       w[k] = 3;
@@ -1304,7 +1686,7 @@ static void crews_list(const V<CodeSheet> &sheets, const V<u64> &state, u64 coun
     u32 crew = some_crew(g);
     u64 call = g.below(10);
     if (call < 4)
-      hand_in_round(t, s, crew, some_cell(g, s.codes, (u8)0), len, round);
+      hand_in_round(t, s, crew, some_cell(g, s.codes), len, round);
     else if (call < 7)
       run_round(t, s, some_turns(g), len, round);
     else
@@ -1352,7 +1734,7 @@ static void large_crews(const Desc &d, const V<u8> &codes, gen::Rng &g) {
   const CodeSheet s = code_sheet(d.rows, d.cols, codes);
   Traces t(V<u64>(66));
   Lengths len{g, false};
-  const u32 cells[] = {0, some_cell(g, codes, (u8)0), (u32)d.n() - 1};
+  const u32 cells[] = {0, some_cell(g, codes), (u32)d.n() - 1};
   for (u32 k = 0; k < 3; k++)
     hand_in_round(t, s, 31 * k / 2, cells[k], len, k);
   run_round(t, s, 40, len, 0);
@@ -1411,19 +1793,18 @@ static bool every_order(const char *call, const V<std::pair<u32, u32>> &order) {
   return all;
 }
 // the same of a call that works out outlets: 17 and 18 are met in their order among the others (18 always comes before 10: without an
-// outlet the lowest cell has no level), each number of closed sides has been accepted, and voids of each kind have been met at least so often, islands half as often; a culvert
-// needs a data cell, and with no side open that has no outlet
-static bool every_outlets_answer(const char *call, const V<u32> &numbers, V<std::pair<u32, u32>> order, bool culvert, u64 least) {
+// outlet the lowest cell has no level), each number of closed sides has been accepted, and voids of each kind have been met at least so often, islands half as often
+static bool every_outlets_answer(const char *call, const V<u32> &numbers, V<std::pair<u32, u32>> order, u64 least) {
   bool all = every_answer(call, numbers);
   order.insert(order.begin(), {{5, 17}, {6, 17}, {17, 7}, {17, 8}, {17, 9}, {9, 18}});
   all = every_order(call, order) && all;
   printf("compare: %s, closed sides accepted: %llu of 16\n", call, (unsigned long long)accepted_sides[call].size());
-  all = all && accepted_sides[call].size() == (culvert ? 15 : 16) && accepted_sides[call].count(15) == !culvert;
+  all = all && accepted_sides[call].size() == 16;
   printf("compare: %s, sheets with voids:", call);
   for (int k = 0; k < VOIDS; k++) {
     u64 met = voids_met[call][k];
     printf("  %s: %llu", VOID_NAMES[k], (unsigned long long)met);
-    all = all && (k == NO_DATA ? (met > 0) == !culvert : met >= (k == ISLAND ? least / 2 : least));
+    all = all && (k == NO_DATA ? met > 0 : met >= (k == ISLAND ? least / 2 : least));
   }
   printf("\n");
   return all;
@@ -1435,7 +1816,7 @@ static void outlets_rounds(const Desc &d, const V<i16> &e, gen::Rng &g, Lengths 
   directions_round(d, e, len, round);
   drain_round(d, e, len, round);
   ponds_round(d, e, false, g, len, round);
-  culvert_round(d, e, g, len, round);
+  culverts_round(d, e, g, len, round);
 }
 
 // every size up to 5 by 5 under every number of closed sides: a flat, two that are cut from larger ones, and one of these with a void; each
@@ -1577,12 +1958,14 @@ static int rounds(u64 count, u64 seed) {
   auto &bad = gen::badkinds();
   small_sheets(seed);
   small_gaps(seed);
+  small_culverts();
   tied_drops();
   write_sizes(seed);
   small_lists();
   list_sizes();
   small_crews(seed);
   voids_met.clear(); // the rounds by themselves
+  listed.fill(0);
   for (u64 i = 0; i < count; i++) {
     gen::Rng g(seed * 1000003 + i);
     u64 side = g.chance(70) ? 9 : g.chance(70) ? 20 : 40;
@@ -1610,7 +1993,7 @@ static int rounds(u64 count, u64 seed) {
     pour_points_round(d, s.e, g, len, i);
     V<i16> banks = pond_sheet(g, i % FORMS, s.rows, s.cols);
     ponds_round(d, banks, false, g, len, i);
-    culvert_round(d, banks, g, len, i);
+    culverts_round(d, banks, g, len, i);
     outlets_rounds(d, cut_sheet(g, i % FORMS, s.rows, s.cols), g, len, i);
     gap_rounds(g, i, side, len);
     read_round(gen::badtext(bad[i % bad.size()], g.g() % 1000000), g, i);
@@ -1628,8 +2011,8 @@ static int rounds(u64 count, u64 seed) {
     crews_lists(code_sheet(s.rows, s.cols, codes), g.below(9), 12, g, len.wrong, i);
   }
   printf("compare: %llu rounds, %llu comparisons, all equal\n", (unsigned long long)count, (unsigned long long)checks);
-  printf("compare: up to %llu ponds; %llu cells opened to a lower level, %llu of them on the border, %llu on the shore of a gap, %llu that lower the filled "
-         "sheet elsewhere\n",
+  printf("compare: up to %llu ponds; %llu cells opened to a lower level, %llu of them on the border, %llu on the shore of a gap; %llu lists that lower the "
+         "filled sheet elsewhere\n",
          (unsigned long long)most_ponds, (unsigned long long)opened_lower, (unsigned long long)opened_border, (unsigned long long)opened_shores,
          (unsigned long long)opened_banks);
   printf("compare: sheets with gaps: %llu with water on the shore of one, %llu with a flat there, %llu with other codes than if every void were outside\n",
@@ -1653,14 +2036,16 @@ static int rounds(u64 count, u64 seed) {
   bool all = every_answer("counts", {0, 5, 6, 7, 8, 9, 11, 12});
   all = every_answer("labels", {0, 5, 6, 7, 8, 9, 11, 12}) && all;
   const u64 least = count / 20; // of each kind of voids, for each call
-  all = every_outlets_answer("fill", {0, 5, 6, 17, 7, 8, 9, 18}, {}, false, least) && all;
+  all = every_outlets_answer("fill", {0, 5, 6, 17, 7, 8, 9, 18}, {}, least) && all;
   const V<std::pair<u32, u32>> shape{{5, 20}, {6, 20}, {17, 20}, {20, 7}, {20, 8}, {20, 9}, {20, 18}};
-  V<std::pair<u32, u32>> culvert(shape);
-  culvert.insert(culvert.end(), {{15, 18}, {16, 18}});
-  all = every_outlets_answer("directions", {0, 5, 6, 17, 20, 7, 8, 9, 18, 10}, shape, false, least) && all;
-  all = every_outlets_answer("drain", {0, 5, 6, 17, 20, 7, 8, 9, 18}, shape, false, least) && all;
-  all = every_outlets_answer("ponds", {0, 5, 6, 17, 7, 8, 9, 18, 14}, {{18, 14}}, false, least) && all;
-  all = every_outlets_answer("culvert", {0, 5, 6, 17, 20, 7, 8, 9, 15, 16, 18}, culvert, true, least) && all;
+  V<std::pair<u32, u32>> culverts(shape);
+  culverts.insert(culverts.end(), {{8, 15}, {8, 16}, {9, 15}, {9, 16}, {15, 18}, {16, 18}});
+  all = every_outlets_answer("directions", {0, 5, 6, 17, 20, 7, 8, 9, 18, 10}, shape, least) && all;
+  all = every_outlets_answer("drain", {0, 5, 6, 17, 20, 7, 8, 9, 18}, shape, least) && all;
+  all = every_outlets_answer("ponds", {0, 5, 6, 17, 7, 8, 9, 18, 14}, {{18, 14}}, least) && all;
+  all = every_outlets_answer("culverts", {0, 5, 6, 17, 20, 7, 8, 9, 15, 16, 18}, culverts, least) && all;
+  all = every_order("lists of unlike lengths", {{5, 7}, {6, 7}, {17, 7}, {20, 7}, {7, 8}, {7, 9}, {7, 15}, {7, 16}}) && all;
+  all = every_answer("no culvert", {0, 5, 6, 17, 20, 7, 8, 9, 18}) && every_kind_of_list(least / 10) && all;
   all = all && wet_shores >= least && flat_shores >= least && other_ways >= least && opened_shores >= least;
   all = every_answer("write", {0, 4, 5, 6, 7, 8}) && every_order("write", {{4, 5}, {4, 6}, {4, 7}, {4, 8}, {5, 6}, {5, 7}, {5, 8}, {6, 7}, {6, 8}, {7, 8}}) && all;
   all = every_answer("check_lists", {0, 5, 6, 19}) && every_order("check_lists", {{5, 6}, {5, 19}, {6, 19}}) && all;
@@ -1702,8 +2087,9 @@ static int big(const char *kind, u64 side) {
   V<i16> banks = pond_sheet(g, DEEPEST, side, side);
   ponds_round(d, s.e, true, g, len, 0);
   ponds_round(d, banks, true, g, len, 0);
-  for (int k = 0; k < 3; k++)
-    culvert_round(d, k ? banks : s.e, g, len, 0);
+  culverts_round(d, s.e, g, len, 0);
+  culverts_round(d, banks, g, len, 1);
+  long_list_of_culverts(d, s.e, g, len);
   d.width = 4;
   d.height = 3;
   directions_round(d, filled, len, 0);
@@ -1711,8 +2097,8 @@ static int big(const char *kind, u64 side) {
   outlets_rounds(d, s.e, g, len, 0);
   d.closed += SOUTH;
   drain_round(d, s.e, len, 0);
-  if (!answers["culvert"][0] || answers["drain"][0] < 2) {
-    fprintf(stderr, "compare: no culvert was opened, or not both the sheet with every side open and that with one were accepted\n");
+  if (answers["culverts"][0] < 2 || !opened_banks || answers["drain"][0] < 2) {
+    fprintf(stderr, "compare: no culverts were opened, or not both the sheet with every side open and that with one were accepted\n");
     return 1;
   }
   auto &met = voids_met["drain"];

@@ -1,7 +1,7 @@
 // Demand 3 by brute force on tiny sheets, as a test of the statement: every chain without repeats, every rival sheet from the input up to 2.
-// It looks only at the four results of tervuola_drain and tervuola_culvert and at the sentences of documents 01 and 02, with the elevations
-// handed in as the input, and with the opened sheet, under every number of closed sides, with gaps, and with cells of several shapes. A sheet is
-// refused just where some data cell has no chain to an outlet.
+// It looks only at the four results of tervuola_drain and tervuola_culverts and at the sentences of documents 01 and 02, with the elevations
+// handed in as the input, and with the sheet opened by a list, under every number of closed sides, with gaps, and with cells of several shapes. A
+// sheet is refused just where some data cell has no chain to an outlet.
 #include "../../include/tervuola.h"
 #include <cstdio>
 #include <cstdlib>
@@ -233,26 +233,27 @@ static bool comes_to_void(int c, vector<char> &on) {
   }
   return false;
 }
-static bool accepted(tervuola_answer a) {
-  if (a.number == 0)
+static bool accepted(uint32_t number, size_t place) {
+  if (number == 0)
     return true;
-  hold(a.number == TERVUOLA_NO_OUTLET && a.place < e.size() && data((int)a.place), "a number");
-  for (int c = 0; c <= (int)a.place; c++) {
+  hold(number == TERVUOLA_NO_OUTLET && place < e.size() && data((int)place), "a number");
+  for (int c = 0; c <= (int)place; c++) {
     vector<char> on(e.size(), 0);
     int best = NO_CHAIN;
     if (data(c))
       chains(c, -32768, on, best);
-    hold(!data(c) || (best == NO_CHAIN) == (c == (int)a.place), "18 and its place");
+    hold(!data(c) || (best == NO_CHAIN) == (c == (int)place), "18 and its place");
   }
   refused++;
   vector<char> on(e.size(), 0);
-  islands += comes_to_void((int)a.place, on);
+  islands += comes_to_void((int)place, on);
   return false;
 }
 static bool drained(Four &r, uint32_t w, uint32_t h) {
   size_t n = e.size();
-  return accepted(tervuola_drain((uint32_t)rows, (uint32_t)cols, sides, w, h, e.data(), n, r.filled.data(), n, r.codes.data(), n, r.counts.data(), n,
-                                 r.labels.data(), n, r.work.data(), 4 * n));
+  tervuola_answer a = tervuola_drain((uint32_t)rows, (uint32_t)cols, sides, w, h, e.data(), n, r.filled.data(), n, r.codes.data(), n, r.counts.data(), n,
+                                     r.labels.data(), n, r.work.data(), 4 * n);
+  return accepted(a.number, a.place);
 }
 // accepted sheets with data cells that have a gap within the border, and one on closed sides, those where a cell beside a gap has water on it, and
 // accepted sheets with gaps and with voids that are outside; accepted sheets with gaps and no data cell
@@ -294,31 +295,117 @@ static void plain_sheet() {
   closed_lakes += lake;
 }
 
-// culverts in all, and those at an inner cell, at an outlet, and beside a gap and no outlet, that lower the filled sheet at another cell
-static unsigned long opened = 0, inner_banks = 0, outlet_banks = 0, shore_banks = 0;
-// the call has the elevations as they were handed in, which stay as they were, and is judged on the opened sheet
-static void opened_sheet(size_t cell, int16_t level) {
+// a culvert, and a list of them opened in the sheet that is handed in
+struct Culvert {
+  size_t cell;
+  int16_t level;
+};
+static tervuola_located culverts(const vector<int16_t> &given, const vector<Culvert> &list, Four &r) {
+  size_t n = given.size();
+  vector<uint32_t> cells;
+  vector<int16_t> levels;
+  for (auto &c : list) {
+    cells.push_back((uint32_t)c.cell);
+    levels.push_back(c.level);
+  }
+  const vector<uint32_t> kept_cells(cells);
+  const vector<int16_t> kept_sheet(given), kept_levels(levels);
+  tervuola_located a = tervuola_culverts((uint32_t)rows, (uint32_t)cols, sides, width, height, given.data(), n, cells.data(), cells.size(), levels.data(),
+                                         levels.size(), r.filled.data(), n, r.codes.data(), n, r.counts.data(), n, r.labels.data(), n, r.work.data(), 4 * n);
+  hold(given == kept_sheet && cells == kept_cells && levels == kept_levels, "the sheet and the lists handed in");
+  return a;
+}
+// Lists in all, and the most entries of one; those with a cell named at two levels, the lower one first, and last. Those that lower the filled sheet at a cell
+// that they do not open: through inner cells alone, at outlets alone, through inner cells one of which is beside a gap, and where no opened cell alone would
+// lower it as far.
+static unsigned long opened = 0, longest = 0, lower_first = 0, lower_last = 0, inner_banks = 0, outlet_banks = 0, shore_banks = 0, joint_banks = 0;
+static void count_named(const vector<Culvert> &list) {
+  bool first = false, last = false;
+  for (size_t k = 0; k < list.size(); k++)
+    for (size_t j = 0; j < k; j++)
+      if (list[j].cell == list[k].cell) {
+        first = first || list[j].level < list[k].level;
+        last = last || list[k].level < list[j].level;
+      }
+  lower_first += first;
+  lower_last += last;
+  if (list.size() > longest)
+    longest = list.size();
+}
+// `given` is the sheet that was handed in, e the opened one, and `filled` what it is filled to; `plain` is what the first is
+static void count_banks(const vector<int16_t> &given, const vector<int16_t> &filled, vector<int16_t> plain) {
+  bool inner = false, at_outlet = false, shore = false, joint = false;
+  vector<int16_t> alone(plain);
+  for (size_t c = 0; c < e.size(); c++) {
+    if (e[c] == given[c])
+      continue;
+    (outlet((int)c) ? at_outlet : inner) = true;
+    shore = shore || (!outlet((int)c) && beside_gap((int)c));
+    Four one(e.size());
+    hold(culverts(given, {{c, e[c]}}, one).number == 0, "the same answer with one of the culverts");
+    for (size_t i = 0; i < e.size(); i++)
+      if (one.filled[i] < alone[i])
+        alone[i] = one.filled[i];
+    plain[c] = filled[c];
+  }
+  for (size_t i = 0; i < e.size(); i++)
+    joint = joint || (e[i] == given[i] && filled[i] < alone[i]);
+  if (plain == filled)
+    return;
+  inner_banks += !at_outlet;
+  outlet_banks += !inner;
+  shore_banks += !at_outlet && shore;
+  joint_banks += joint;
+}
+// the call has the elevations as they were handed in, and is judged on the opened sheet: a cell has the lowest level that is named for it
+static void opened_sheet(const vector<Culvert> &list) {
   size_t n = e.size();
   Four plain(n), r(n);
-  vector<int16_t> given(e), kept(e);
+  const vector<int16_t> given(e);
   next_shape();
   find_outside(); // a culvert makes no void
   bool was = drained(plain, width, height);
-  e[cell] = level;
-  bool is = accepted(tervuola_culvert((uint32_t)rows, (uint32_t)cols, sides, width, height, given.data(), n, (uint32_t)cell, level, r.filled.data(),
-                                      n, r.codes.data(), n, r.counts.data(), n, r.labels.data(), n, r.work.data(), 4 * n));
-  hold(given == kept, "the sheet handed in");
-  hold(is == was, "the same answer with the culvert");
+  for (auto &c : list)
+    if (c.level < e[c.cell])
+      e[c.cell] = c.level;
+  tervuola_located a = culverts(given, list, r);
+  bool is = accepted(a.number, a.place);
+  hold(is == was, "the same answer with the culverts");
   opened++;
+  count_named(list);
   if (is) {
     judge(r);
-    plain.filled[cell] = r.filled[cell];
-    if (plain.filled != r.filled) {
-      (outlet((int)cell) ? outlet_banks : inner_banks)++;
-      shore_banks += !outlet((int)cell) && beside_gap((int)cell);
-    }
+    count_banks(given, r.filled, plain.filled);
   }
-  e = kept;
+  e = given;
+}
+// how many sheets judge tries for this input
+static double rivals(const vector<int16_t> &input) {
+  double product = 1;
+  for (int16_t x : input)
+    product *= x == TERVUOLA_VOID ? 1 : 3 - x;
+  return product;
+}
+// From one entry to some dozens, at data cells and levels from -1 to the elevation, about half of them at a cell that is named already. One at a void is
+// left out, and one that would make the rival sheets too many to try; where all are, the list is empty.
+static vector<Culvert> some_list(std::mt19937 &g) {
+  vector<Culvert> list;
+  const vector<int16_t> given(e);
+  const double most = rivals(e) < 2000 ? 4000 : 2 * rivals(e);
+  for (size_t k = 1 + (g() % 3 ? g() % 6 : g() % 48); k > 0; k--) {
+    size_t c = list.empty() || g() % 2 ? g() % e.size() : list[g() % list.size()].cell;
+    if (!data((int)c))
+      continue;
+    const int16_t level = (int16_t)((int)(g() % (unsigned)(given[c] + 2)) - 1), before = e[c];
+    if (level < before)
+      e[c] = level;
+    if (rivals(e) > most)
+      e[c] = before;
+    else
+      list.push_back({c, level});
+  }
+  e = given;
+  return list;
 }
 
 int main() {
@@ -340,7 +427,9 @@ int main() {
       for (size_t c = 0; c < n; c++) // and each with every cell opened to every level, or one in 64 of these
         for (int level = -1; data((int)c) && level <= e[c]; level++)
           if (n <= 4 || g() % 64 == 0)
-            opened_sheet(c, (int16_t)level);
+            opened_sheet({{c, (int16_t)level}});
+      if (n <= 4 || g() % 16 == 0) // and with a list
+        opened_sheet(some_list(g));
     }
   }
   for (int k = 0; k < 1500; k++) { // some of these
@@ -355,9 +444,7 @@ int main() {
         if (g() % 2)
           e[(size_t)(r * cols + q)] = 0;
     plain_sheet();
-    size_t c = g() % e.size();
-    if (data((int)c))
-      opened_sheet(c, (int16_t)((int)(g() % (unsigned)(e[c] + 2)) - 1));
+    opened_sheet(some_list(g));
   }
   for (int k = 0; k < 100; k++) { // an inner cell as the bank of the other one, which lies deeper and has a high border
     rows = k % 2 ? 3 : 4, cols = k % 2 ? 4 : 3;
@@ -369,7 +456,23 @@ int main() {
     e[out] = (int16_t)(g() % 2);
     if (g() % 4 == 0)
       e[0] = TERVUOLA_VOID;
-    opened_sheet(bank, (int16_t)((int)(g() % 2) - 1));
+    opened_sheet({{bank, (int16_t)((int)(g() % 2) - 1)}});
+  }
+  for (int k = 0; k < 400; k++) { // two banks between a hollow and the one open side, along a row or a column, each named a few times
+    rows = k % 2 ? 2 : 5, cols = k % 2 ? 5 : 2;
+    sides = 15 - (uint32_t)(k % 2 ? TERVUOLA_CLOSED_EAST : TERVUOLA_CLOSED_SOUTH);
+    e.assign(10, 2);
+    const size_t step = k % 2 ? 1 : 2, hollow = step;
+    e[0] = (int16_t)(g() % 3);
+    e[hollow] = 0;
+    e[hollow + step] = (int16_t)(1 + g() % 2);
+    e[hollow + 3 * step] = (int16_t)(g() % 2);
+    vector<Culvert> list;
+    for (size_t j = 2 + g() % 5; j > 0; j--) {
+      const size_t bank = hollow + (1 + j % 2) * step;
+      list.push_back({bank, (int16_t)((int)(g() % (unsigned)(e[bank] + 2)) - 1)});
+    }
+    opened_sheet(list);
   }
   for (int k = 0; k < 1200; k++) { // lakes: all or most of what lies within the border, and now and then a void on it
     static const int sizes[6][2] = {{3, 3}, {3, 4}, {4, 3}, {4, 4}, {3, 5}, {5, 3}};
@@ -384,9 +487,7 @@ int main() {
         e[(size_t)(r * cols + q)] = is_void ? (int16_t)TERVUOLA_VOID : (int16_t)(border ? 2 - g() % 5 / 2 : g() % 3);
       }
     plain_sheet();
-    size_t c = g() % e.size();
-    if (data((int)c))
-      opened_sheet(c, (int16_t)((int)(g() % (unsigned)(e[c] + 2)) - 1));
+    opened_sheet(some_list(g));
   }
   for (int k = 0; k < 200; k++) { // an island in a gap, with a way to it now and then
     rows = cols = 5;
@@ -401,14 +502,19 @@ int main() {
       e[around[g() % 8]] = (int16_t)(1 + g() % 2);
     plain_sheet();
   }
-  printf("demand 3: %lu facts on %lu tiny sheets under all closed sides, and on %lu opened ones, %lu of them through an inner bank, %lu at an outlet\n",
-         facts, sheets, opened, inner_banks, outlet_banks);
+  printf("demand 3: %lu facts on %lu tiny sheets under all closed sides, and on %lu opened ones, by up to %lu culverts; a cell is named at two levels, the lower "
+         "first, %lu times, and last %lu\n",
+         facts, sheets, opened, longest, lower_first, lower_last);
+  printf("demand 3: lists that lower the filled sheet elsewhere: %lu through inner banks, %lu of them beside a gap, %lu at outlets, %lu further than any of their "
+         "cells alone\n",
+         inner_banks, shore_banks, outlet_banks, joint_banks);
   printf("demand 3: %lu sheets of oblong cells with other codes than square ones have\n", other_codes);
   printf("demand 3: %lu sheets with water on a border cell that is no outlet; %lu times no chain to an outlet, and 18, %lu of them beside a gap\n", closed_lakes,
          refused, islands);
   printf("demand 3: accepted sheets with gaps: %lu within the border, %lu on closed sides, %lu with water beside one, %lu with voids that are outside too, %lu "
-         "without data; %lu culverts beside one that lower the filled sheet elsewhere\n",
-         inner_gaps, side_gaps, wet_shores, both_voids, no_data, shore_banks);
+         "without data\n",
+         inner_gaps, side_gaps, wet_shores, both_voids, no_data);
   bool gaps = inner_gaps > 100 && side_gaps > 100 && wet_shores > 100 && both_voids > 100 && islands > 100 && shore_banks > 20 && no_data;
-  return gaps && inner_banks && outlet_banks && closed_lakes && refused && other_codes ? 0 : 1;
+  bool lists = longest >= 24 && lower_first > 1000 && lower_last > 1000 && inner_banks > 100 && outlet_banks > 100 && joint_banks > 100;
+  return gaps && lists && closed_lakes && refused && other_codes ? 0 : 1;
 }

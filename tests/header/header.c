@@ -21,8 +21,8 @@ tervuola_counted tervuola_ponds(uint32_t, uint32_t, uint32_t, const int16_t *, s
 tervuola_answer tervuola_directions(uint32_t, uint32_t, uint32_t, uint32_t, uint32_t, const int16_t *, size_t, uint8_t *, size_t, uint32_t *, size_t);
 tervuola_answer tervuola_drain(uint32_t, uint32_t, uint32_t, uint32_t, uint32_t, const int16_t *, size_t, int16_t *, size_t, uint8_t *, size_t,
                                uint32_t *, size_t, uint32_t *, size_t, uint32_t *, size_t);
-tervuola_answer tervuola_culvert(uint32_t, uint32_t, uint32_t, uint32_t, uint32_t, const int16_t *, size_t, uint32_t, int16_t, int16_t *, size_t,
-                                 uint8_t *, size_t, uint32_t *, size_t, uint32_t *, size_t, uint32_t *, size_t);
+tervuola_located tervuola_culverts(uint32_t, uint32_t, uint32_t, uint32_t, uint32_t, const int16_t *, size_t, const uint32_t *, size_t, const int16_t *,
+                                   size_t, int16_t *, size_t, uint8_t *, size_t, uint32_t *, size_t, uint32_t *, size_t, uint32_t *, size_t);
 tervuola_counted tervuola_write(uint32_t, uint32_t, const int16_t *, size_t, uint8_t *, size_t);
 tervuola_located tervuola_check_lists(uint32_t, uint32_t, const uint32_t *, size_t, const uint32_t *, size_t);
 tervuola_part tervuola_shared_ending(uint32_t, uint32_t, const uint32_t *, size_t, const uint32_t *, size_t);
@@ -58,14 +58,17 @@ int main(void)
     EXPECT(sizeof(tervuola_answer) == 8 && sizeof(tervuola_counted) == 12 && sizeof(tervuola_dimensions) == 16);
     /* the types of the buffers; nothing is called under sizeof */
     EXPECT(sizeof tervuola_ponds(3, 3, 0, elevations, 9, numbers, 9, level, 2, cells, 2, volume, 2, work, 36) == sizeof(tervuola_counted));
-    EXPECT(sizeof tervuola_culvert(3, 3, 0, 1, 1, elevations, 9, numbers[0], level[0], filled, 9, codes, 9, numbers, 9, numbers, 9, work, 36)
-           == sizeof(tervuola_answer));
+    EXPECT(sizeof tervuola_culverts(3, 3, 0, 1, 1, elevations, 9, cells, 2, level, 2, filled, 9, codes, 9, numbers, 9, numbers, 9, work, 36)
+           == sizeof(tervuola_located));
+    EXPECT(sizeof tervuola_culverts(3, 3, 0, 1, 1, elevations, 9, NULL, 0, NULL, 0, filled, 9, codes, 9, numbers, 9, numbers, 9, work, 36).place
+           == sizeof(size_t));
     EXPECT(strcmp(tervuola_text(0), "accepted") == 0);
     for (k = 1; k <= 23; k++) {
         EXPECT(strcmp(tervuola_text(k), "unknown number") != 0);
         EXPECT(strcmp(tervuola_text(k), tervuola_text(k - 1)) != 0);
     }
     EXPECT(strstr(tervuola_text(14), "pairs") && strstr(tervuola_text(14), "ponds"));
+    EXPECT(strstr(tervuola_text(7), "lists of culverts") && strstr(tervuola_text(15), "culvert's cell") && strstr(tervuola_text(16), "culvert's level"));
     EXPECT(TERVUOLA_BAD_CELL == 15 && TERVUOLA_BAD_LEVEL == 16 && TERVUOLA_BAD_SIDES == 17 && TERVUOLA_NO_OUTLET == 18);
     EXPECT(TERVUOLA_BAD_LIST == 19 && TERVUOLA_BAD_CELL_SHAPE == 20 && TERVUOLA_MAX_CELL_SIDE == 1000);
     EXPECT(TERVUOLA_CLOSED_WEST == 1 && TERVUOLA_CLOSED_EAST == 2 && TERVUOLA_CLOSED_NORTH == 4 && TERVUOLA_CLOSED_SOUTH == 8);

@@ -11,7 +11,7 @@ use Rattle.grid.specs.declared.Grid.{Grid}
 use Rattle.grid.specs.declared.Answer.{Answer}
 use Rattle.grid.specs.Sheet.{size}
 use Rattle.grid.specs.Checks.{refusal, ask, inRange, inShape, askSize, allHave, askLengths, askSides, askShape, askSheets, askOutlets}
-use Rattle.grid.specs.Checks.{askFlow, askWork}
+use Rattle.grid.specs.Checks.{askDescription, askFlow, askWork}
 use Rattle.grid_laws.proofs.Tests.{cond-true, and-true, and-left, and-right, not-is-true, not-is-false}
 use Rattle.shape_laws.specs.Shaped.{Shaped}
 use Rattle.shape_laws.proofs.Shapes.{shaped-of}
@@ -119,6 +119,11 @@ pub shape-gate : (g : Grid) → Gate (askShape g) (Shaped g)
 unfolding askShape
 shape-gate g = weaken (shaped-of g) (one (inShape (g .width) && inShape (g .height)) 20 0 (omega arith))
 
+-- 5, 6, 17 and 20
+pub description-gate : (g : Grid) → Gate (askDescription g) (Fits g × Shaped g)
+unfolding askDescription
+description-gate g = both (size-and-sides-gate g) (shape-gate g)
+
 -- 8 is asked after 5 to 7, which are 5 to 8 without results
 pub results-asked : (g : Grid) (inputs results : List ℕ) (later : Answer) →
     askSheets g inputs [] (ask (allHave (size g) results) (refusal 8 0) later) ≡ askSheets g inputs results later
@@ -137,11 +142,15 @@ unfolding askOutlets
 sides-asked g inputs results later = refl
 
 -- and 20 after 17
-pub shape-asked : (g : Grid) (inputs results : List ℕ) (later : Answer) →
-    askSize g (askSides g (ask (inShape (g .width) && inShape (g .height)) (refusal 20 0) (askLengths g inputs results later)))
-    ≡ askFlow g inputs results later
-unfolding askFlow askShape
-shape-asked g inputs results later = refl
+pub shape-asked : (g : Grid) (later : Answer) →
+    askSize g (askSides g (ask (inShape (g .width) && inShape (g .height)) (refusal 20 0) later)) ≡ askDescription g later
+unfolding askDescription askShape
+shape-asked g later = refl
+
+pub flow-asked : (g : Grid) (inputs results : List ℕ) (later : Answer) →
+    askDescription g (askLengths g inputs results later) ≡ askFlow g inputs results later
+unfolding askFlow
+flow-asked g inputs results later = refl
 
 pub lengths-asked : (g : Grid) (inputs results : List ℕ) (later : Answer) →
     askSheets g inputs results later ≡ askSize g (askLengths g inputs results later)
@@ -179,13 +188,19 @@ pub record FlowSized (g : Grid) (inputs results : List ℕ) (work : ℕ) : Type 
   pub results-have : AllAre (size g) results
   pub room : 4 * size g ≤ work
 
+-- 7 to 9, after the description's
+pub lengths-work-gate : (g : Grid) (inputs results : List ℕ) (work : ℕ) →
+    Gate (λ later. askLengths g inputs results (askWork g work later))
+    ((AllAre (size g) inputs × AllAre (size g) results) × (4 * size g ≤ work))
+lengths-work-gate g inputs results work = both (lengths-gate g inputs results) (work-gate g work)
+
 pub flow-check-gate : (g : Grid) (inputs results : List ℕ) (work : ℕ) →
     Gate (λ later. askFlow g inputs results (askWork g work later)) (FlowSized g inputs results work)
 unfolding askFlow
 flow-check-gate g inputs results work =
     weaken
-    (λ f. record { fits = f .0; shaped = f .1 .0; inputs-have = f .1 .1 .0 .0; results-have = f .1 .1 .0 .1; room = f .1 .1 .1 })
-    (both (size-and-sides-gate g) (both (shape-gate g) (both (lengths-gate g inputs results) (work-gate g work))))
+    (λ f. record { fits = f .0 .0; shaped = f .0 .1; inputs-have = f .1 .0 .0; results-have = f .1 .0 .1; room = f .1 .1 })
+    (both (description-gate g) (lengths-work-gate g inputs results work))
 
 -- ---- the lengths of lists
 
@@ -259,5 +274,5 @@ pub one-flow-result : (g : Grid) (a r : ℕ) (later : Answer) →
     askFlow g (a ∷ []) (r ∷ r ∷ r ∷ r ∷ []) later ≡ askFlow g (a ∷ []) (r ∷ []) later
 unfolding askFlow
 one-flow-result g a r later =
-    ap (λ (x : Answer). askSize g (askSides g (askShape g x)))
+    ap (askDescription g)
     (same-lengths g (a ∷ []) (a ∷ []) (r ∷ r ∷ r ∷ r ∷ []) (r ∷ []) later refl (results-again (size g) r))

@@ -70,18 +70,20 @@ by-answer {gate} (inr f) later =
 pub number-zero : (a : Answer) → T (isAccepted a) → a .number ≡ 0
 number-zero a t = eqb-true (a .number) 0 (T-true (isAccepted a) t)
 
+-- a gate before an answer of 0 is passed, and what is asked later is answered by 0 too
+pub through : {gate : Answer → Answer} {Fact : Type 0} → Gate gate Fact → (later : Answer) → (gate later) .number ≡ 0 →
+    Passed gate Fact × (later .number ≡ 0)
+through (inl p) later z = (p, sym (ap (λ (a : Answer). a .number) (p .then later)) ∙ z)
+through {gate} (inr f) later z =
+    let l = f .above in
+    let q : (gate later) .number ≡ (gate accepted) .number = ap (λ (a : Answer). a .number) (f .stands later) in
+    let y : ⊥ = omega arith in
+    absurd y
+
 -- by the number that a gate answered
 module _ {gate : Answer → Answer} {Fact : Type 0} (is : Gate gate Fact) {r : Answer} (asked : r ≡ gate accepted) where
   pub passed : r .number ≡ 0 → Passed gate Fact
-  passed z = go is
-    where
-      go : Gate gate Fact → Passed gate Fact
-      go (inl p) = p
-      go (inr f) =
-          let l = f .above in
-          let e : r .number ≡ (gate accepted) .number = ap (λ (a : Answer). a .number) asked in
-          let y : ⊥ = omega arith in
-          absurd y
+  passed z = through is accepted (sym (ap (λ (a : Answer). a .number) asked) ∙ z) .0
 
   pub refused : (r .number ≡ 0 → ⊥) → Refused gate
   refused n = go is

@@ -1,16 +1,18 @@
 // The questions that every call with sheets asks first, 5 to 9 of "Questions at the gate", answered on the lengths of its lists by a few
 // functions, each one question longer than the one before; and the same with 17 after 6, for calls that work out outlets, and with 17 and
-// 20, for calls that work out codes.
+// 20, for calls that work out codes, 5, 6, 17 and 20 alone too. `located` hands an answer on where places may be places in a list.
 // `proofs/Gate.antt` carries an answer to each call's own definition in `grid`: what is asked after it, and what a yes says.
 use grid::Answer;
 use grid::Grid;
+use grid::Located;
 ghost use mathlib.Core.Path.{_≡_};
 ghost use mathlib.Core.Bool.{_&&_};
 ghost use mathlib.Core.List.{[], _∷_};
 ghost use Prim.Native.Nat.{_*_, _<_, _^_};
 ghost use lib.Dec.{leb};
 ghost use Rattle.grid.specs.Sheet.{size};
-ghost use Rattle.grid.specs.Checks.{accepted, inRange, inShape, allHave, askSize, askSides, askSheets, askOutlets, askFlow, askWork};
+ghost use Rattle.grid.specs.Checks.{accepted, inRange, inShape, allHave, askSize, askSides, askSheets, askOutlets, askDescription};
+ghost use Rattle.grid.specs.Checks.{askFlow, askWork, ofLocated};
 
 // "from 1 to 4,000", in questions 5 and 6, which the reader asks too.
 pub fn in_range(k: usize) -> bool
@@ -217,17 +219,9 @@ pub fn check_outlets(
     answer
 }
 
-// 5, 6, 17, 20 and 7 to 9, of calls that work out codes. `check` asks 5 and 6 once more, and gets a yes.
-pub fn check_flow(
-    g: Grid,
-    given: usize,
-    a: usize,
-    b: usize,
-    c: usize,
-    d: usize,
-    work: usize,
-) -> Answer
-    ensures { λ r. ⌜ r ≡ askFlow g (given ∷ []) (a ∷ b ∷ c ∷ d ∷ []) (askWork g work accepted) ⌝ }
+// 5, 6, 17 and 20, of calls that work out codes.
+pub fn description(g: Grid) -> Answer
+    ensures { λ r. ⌜ r ≡ askDescription g accepted ⌝ }
 {
     let answer = rows_cols_and_sides(g);
     if answer.number != 0 {
@@ -239,5 +233,34 @@ pub fn check_flow(
             place: 0,
         };
     }
+    answer
+}
+
+// The same and 7 to 9. `check` asks 5 and 6 once more, and gets a yes.
+pub fn check_flow(
+    g: Grid,
+    given: usize,
+    a: usize,
+    b: usize,
+    c: usize,
+    d: usize,
+    work: usize,
+) -> Answer
+    ensures { λ r. ⌜ r ≡ askFlow g (given ∷ []) (a ∷ b ∷ c ∷ d ∷ []) (askWork g work accepted) ⌝ }
+{
+    let answer = description(g);
+    if answer.number != 0 {
+        return answer;
+    }
     check(g, given, given, a, b, c, d, work)
+}
+
+// An answer of a call whose places may be places in a list.
+pub fn located(answer: Answer) -> Located
+    ensures { λ r. ⌜ ofLocated r ≡ answer ⌝ }
+{
+    Located {
+        number: answer.number,
+        place: answer.place as usize,
+    }
 }

@@ -13,8 +13,8 @@ use Rattle.grid.specs.declared.Grid.{Grid}
 use Rattle.grid.specs.declared.Answer.{Answer}
 use Rattle.grid.specs.declared.Dimensions.{Dimensions}
 use Rattle.grid.specs.Sheet.{gridOf, size}
-use Rattle.grid.specs.Checks.{accepted, isAccepted, askSize, allHave, askLengths, askSides, inShape, askShape, askFlow, askWork, askReach}
-use Rattle.grid.specs.Checks.{drainCheck}
+use Rattle.grid.specs.Checks.{accepted, isAccepted, askSize, allHave, askLengths, askSides, inShape, askShape, askDescription, askFlow}
+use Rattle.grid.specs.Checks.{askWork, askReach, drainCheck}
 use Rattle.grid.specs.Frames.{textGrid, readCheck, resultText, refusalText, drainText, programText}
 use Rattle.grid.specs.Promises.{ReadPromise, DrainPromise}
 use Rattle.checks.proofs.Asked.{range-of}
@@ -69,7 +69,7 @@ module _ (g : Grid) (e filled₀ filled₁ : List ℤ) (codes₀ codes₁ counts
 
   -- of the questions only 18 can be answered by a no
   answers : r ≡ askReach g e accepted
-  unfolding drainCheck askFlow askSides askShape askLengths askSize askWork allHave
+  unfolding drainCheck askFlow askDescription askSides askShape askLengths askSize askWork allHave
   answers =
       p .answer
       ∙ rw (

@@ -3,14 +3,14 @@ use mathlib.Core.Path.{_≡_}
 use mathlib.Core.Bool.{Bool, true, false, not, _||_}
 use mathlib.Core.List.{List}
 use Prim.Native.Nat.{ℕ}
-use lib.Dec.{T, eqb}
+use lib.Dec.{eqb}
 use lib.ListN.{length, getD}
 use lib.IntN.{ℤ}
 use Rattle.grid.specs.declared.Grid.{Grid}
 use Rattle.grid.specs.Sheet.{size, isData, neighbour, SixteenBits}
 use Rattle.grid.specs.Outlet.{isGap, isOutlet, drained, firstStranded}
 use Rattle.grid.specs.Fill.{filled}
-use Rattle.grid.specs.Culvert.{opened, isLevelFor}
+use Rattle.grid.specs.Culverts.{opened, firstBadEntry}
 use Rattle.grid.specs.Guarantee.{PathToOutlet}
 use Rattle.grid.specs.Readings.{ReadsBy}
 use Rattle.grid.specs.Gaps.{NoGaps}
@@ -23,14 +23,15 @@ DrainedByChains =
     (getD (drained g e) c false ≡ true → (l : List ℕ) × PathToOutlet g e c l)
     × ((l : List ℕ) → PathToOutlet g e c l → getD (drained g e) c false ≡ true)
 
--- ---- opening a cell moves neither voids nor gaps nor outlets, so 18 of the opened sheet is 18 of the sheet handed in, after a yes to 15 and 16
+-- ---- opening cells moves neither voids nor gaps nor outlets, so 18 of the opened sheet is 18 of the sheet handed in, after a yes to 15
+-- and 16 for every entry
 abbrev pub OpenedAlike : Type 0
 OpenedAlike =
-    (g : Grid) (e : List ℤ) (cell : ℕ) (level : ℤ) → T (isData e cell) → T (isLevelFor e cell level) →
-    ((c : ℕ) → isData (opened e cell level) c ≡ isData e c)
-    × ((c : ℕ) → isGap g (opened e cell level) c ≡ isGap g e c)
-    × ((c : ℕ) → isOutlet g (opened e cell level) c ≡ isOutlet g e c)
-    × (firstStranded g (opened e cell level) ≡ firstStranded g e)
+    (g : Grid) (e : List ℤ) (cells : List ℕ) (levels : List ℤ) → firstBadEntry e cells levels ≡ length cells →
+    ((c : ℕ) → isData (opened e cells levels) c ≡ isData e c)
+    × ((c : ℕ) → isGap g (opened e cells levels) c ≡ isGap g e c)
+    × ((c : ℕ) → isOutlet g (opened e cells levels) c ≡ isOutlet g e c)
+    × (firstStranded g (opened e cells levels) ≡ firstStranded g e)
 
 -- ---- document 01's rule, as it stood before sides could be closed: a step that "points off the sheet or at a void". By it "An outlet is a
 -- data cell on the sheet's border or beside a void", where a border cell is one with a step off the sheet, and "Its code is the first of

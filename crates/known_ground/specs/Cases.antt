@@ -15,8 +15,8 @@ use Rattle.grid.specs.Fill.{filled}
 use Rattle.grid.specs.Directions.{choice, directions}
 use Rattle.grid.specs.Routes.{route, counts, labels}
 use Rattle.grid.specs.Ponds.{ponds, pondCount, pondLevel, pondCells, pondVolume}
-use Rattle.grid.specs.Culvert.{opened}
-use Rattle.grid.specs.Checks.{accepted, askSize, fillCheck, directionsCheck, drainCheck, codesCheck, pondsCheck, culvertCheck}
+use Rattle.grid.specs.Culverts.{opened}
+use Rattle.grid.specs.Checks.{accepted, askSize, fillCheck, directionsCheck, drainCheck, codesCheck, pondsCheck, culvertsCheck}
 use Rattle.grid.specs.Endings.{endingCheck, sharedEnding}
 use Rattle.grid.specs.Crews.{largest, standsOn, nextCrew, totalOf, handInCheck, runCheck, collected}
 use Rattle.grid.specs.Operations.{Operation, run, hand-in, collect, afterAll, zeros}
@@ -164,6 +164,13 @@ opened-bank =
     pos 9 ∷ pos 2 ∷ pos 2 ∷ pos 3 ∷ pos 1 ∷
     pos 9 ∷ pos 9 ∷ pos 9 ∷ pos 9 ∷ pos 9 ∷ []
 
+-- and with the cell east of it at −5
+road : List ℤ
+road =
+    pos 9 ∷ pos 9 ∷ pos 9 ∷ pos 9 ∷ pos 9 ∷
+    pos 9 ∷ pos 2 ∷ pos 2 ∷ negsuc 4 ∷ pos 1 ∷
+    pos 9 ∷ pos 9 ∷ pos 9 ∷ pos 9 ∷ pos 9 ∷ []
+
 -- 3 by 4: a valley of 2, 4, 6, 5 from west to east between banks of 8
 cut : List ℤ
 cut =
@@ -201,10 +208,11 @@ oneWhere t = cond t 1 0
 numberAndPlace : Answer → List ℕ
 numberAndPlace a = a .number ∷ a .place ∷ []
 
--- for a culvert in the bank, with a work buffer of this length
-culvertIn : ℕ → ℤ → ℕ → List ℕ
+-- for culverts in the bank, with result sheets and a work buffer of these lengths
+culvertsIn : List ℕ → List ℤ → ℕ → ℕ → List ℕ
 unfolding numberAndPlace
-culvertIn cell level work = numberAndPlace (culvertCheck (gridOf 3 5) bank cell level 15 15 15 15 work)
+culvertsIn cells levels results work =
+    numberAndPlace (culvertsCheck (gridOf 3 5) bank cells levels results results results results work)
 
 -- for a sheet of this many rows, columns and elevations, and a buffer of this length
 writeIn : ℕ → ℕ → ℕ → ℕ → List ℕ
@@ -271,9 +279,9 @@ runIn work s = numberAndPlace (runCheck (gridOf 1 4) streams work s)
 -- ---- the table
 
 unfoldable pub knownGround : List Case
-unfolding printed-input printed-output voids between middle basin hole island lagoon lake oneWhere pools poolNumbers bank opened-bank cut
-    eastward corners corners-read corners-written numberAndPlace culvertIn writeIn listsIn codeAmid shapeIn basinCodes openedCodes eastwardCodes
-    streams crewsAfter traced standing collectedIn handIn runIn
+unfolding printed-input printed-output voids between middle basin hole island lagoon lake oneWhere pools poolNumbers bank opened-bank road
+    cut eastward corners corners-read corners-written numberAndPlace culvertsIn writeIn listsIn codeAmid shapeIn basinCodes openedCodes
+    eastwardCodes streams crewsAfter traced standing collectedIn handIn runIn
 knownGround =
     -- P1: the printed example, from text to text
     numbers (programText printed-input) printed-output
@@ -329,7 +337,7 @@ knownGround =
     -- columns of unlike length get 8, before 9
     ∷ numbers ((pondsCheck (gridOf 4 6) pools 24 1 2 1 0) .number ∷ []) (8 ∷ [])
     -- a culvert: the opened sheet, and the four results that the call gives for it
-    ∷ elevations (opened bank 7 (pos 2)) opened-bank
+    ∷ elevations (opened bank (7 ∷ []) (pos 2 ∷ [])) opened-bank
     ∷ elevations (filled (gridOf 3 5) opened-bank)
     (pos 9 ∷ pos 9 ∷ pos 9 ∷ pos 9 ∷ pos 9 ∷
     pos 9 ∷ pos 3 ∷ pos 3 ∷ pos 3 ∷ pos 1 ∷
@@ -338,13 +346,29 @@ knownGround =
     ∷ numbers (counts (gridOf 3 5) openedCodes) (0 ∷ 0 ∷ 0 ∷ 0 ∷ 0 ∷ 0 ∷ 0 ∷ 1 ∷ 2 ∷ 3 ∷ 0 ∷ 0 ∷ 0 ∷ 0 ∷ 0 ∷ [])
     ∷ numbers (labels (gridOf 3 5) openedCodes) (1 ∷ 2 ∷ 3 ∷ 4 ∷ 5 ∷ 6 ∷ 10 ∷ 10 ∷ 10 ∷ 10 ∷ 11 ∷ 12 ∷ 13 ∷ 14 ∷ 15 ∷ [])
     -- the cell's own elevation passes, and the lowest level at an outlet; above it and −32,768 get 16, off the sheet and a void 15
-    ∷ numbers (culvertIn 7 (pos 6) 60) (0 ∷ 0 ∷ [])
-    ∷ numbers (culvertIn 4 (negsuc 32766) 60) (0 ∷ 0 ∷ [])
-    ∷ numbers (culvertIn 7 (pos 7) 60) (16 ∷ 7 ∷ [])
-    ∷ numbers (culvertIn 7 (negsuc 32767) 60) (16 ∷ 7 ∷ [])
-    ∷ numbers (culvertIn 15 (negsuc 32767) 60) (15 ∷ 15 ∷ [])
-    ∷ numbers (numberAndPlace (culvertCheck (gridOf 5 5) hole 12 (negsuc 32766) 25 25 25 25 100)) (15 ∷ 12 ∷ [])
-    ∷ numbers (culvertIn 15 (negsuc 32767) 59) (9 ∷ 0 ∷ [])
+    ∷ numbers (culvertsIn (7 ∷ []) (pos 6 ∷ []) 15 60) (0 ∷ 0 ∷ [])
+    ∷ numbers (culvertsIn (4 ∷ []) (negsuc 32766 ∷ []) 15 60) (0 ∷ 0 ∷ [])
+    ∷ numbers (culvertsIn (7 ∷ []) (pos 7 ∷ []) 15 60) (16 ∷ 0 ∷ [])
+    ∷ numbers (culvertsIn (7 ∷ []) (negsuc 32767 ∷ []) 15 60) (16 ∷ 0 ∷ [])
+    ∷ numbers (culvertsIn (15 ∷ []) (negsuc 32767 ∷ []) 15 60) (15 ∷ 0 ∷ [])
+    ∷ numbers (numberAndPlace (culvertsCheck (gridOf 5 5) hole (12 ∷ []) (negsuc 32766 ∷ []) 25 25 25 25 100)) (15 ∷ 0 ∷ [])
+    -- all culverts of a road: in either order the same sheet, a cell named twice at the lower level, and none the plain sheet
+    ∷ elevations (opened bank (8 ∷ 7 ∷ []) (negsuc 4 ∷ pos 2 ∷ [])) road
+    ∷ elevations (opened bank (7 ∷ 8 ∷ []) (pos 2 ∷ negsuc 4 ∷ [])) road
+    ∷ elevations (opened bank (7 ∷ 7 ∷ []) (pos 2 ∷ pos 5 ∷ [])) opened-bank
+    ∷ elevations (opened bank (7 ∷ 7 ∷ []) (pos 5 ∷ pos 2 ∷ [])) opened-bank
+    ∷ elevations (opened bank [] []) bank
+    ∷ numbers (culvertsIn [] [] 15 60) (0 ∷ 0 ∷ [])
+    -- a level above another's is judged on the elevation; the place is the first bad entry's in the list, and its number 15 before 16
+    ∷ numbers (culvertsIn (7 ∷ 7 ∷ []) (pos 2 ∷ pos 5 ∷ []) 15 60) (0 ∷ 0 ∷ [])
+    ∷ numbers (culvertsIn (7 ∷ 7 ∷ 15 ∷ []) (pos 2 ∷ pos 7 ∷ pos 2 ∷ []) 15 60) (16 ∷ 1 ∷ [])
+    ∷ numbers (culvertsIn (7 ∷ 15 ∷ 7 ∷ []) (pos 2 ∷ negsuc 32767 ∷ pos 7 ∷ []) 15 60) (15 ∷ 1 ∷ [])
+    ∷ numbers (culvertsIn (7 ∷ 4 ∷ 4294967295 ∷ []) (pos 6 ∷ pos 9 ∷ pos 0 ∷ []) 15 60) (15 ∷ 2 ∷ [])
+    -- lists of two lengths get 7, before 8; a bad entry is asked for after 9
+    ∷ numbers (culvertsIn (7 ∷ []) (pos 2 ∷ pos 2 ∷ []) 14 0) (7 ∷ 0 ∷ [])
+    ∷ numbers (culvertsIn (7 ∷ 15 ∷ []) (pos 2 ∷ []) 14 0) (7 ∷ 0 ∷ [])
+    ∷ numbers (culvertsIn (15 ∷ []) (negsuc 32767 ∷ []) 14 0) (8 ∷ 0 ∷ [])
+    ∷ numbers (culvertsIn (15 ∷ []) (negsuc 32767 ∷ []) 15 59) (9 ∷ 0 ∷ [])
     -- closed sides: the four results where the east side alone is open, with a lake against the west side
     ∷ elevations (filled eastward cut)
     (pos 8 ∷ pos 8 ∷ pos 8 ∷ pos 8 ∷
@@ -366,9 +390,9 @@ knownGround =
     ∷ numbers (numberAndPlace (directionsCheck (closedGrid 3 4 15) cut 12 48)) (18 ∷ 0 ∷ [])
     ∷ numbers (numberAndPlace (drainCheck (closedGrid 3 4 15) cut 12 12 12 12 48)) (18 ∷ 0 ∷ [])
     ∷ numbers (numberAndPlace (pondsCheck (closedGrid 3 4 15) cut 12 0 0 0 48)) (18 ∷ 0 ∷ [])
-    ∷ numbers (numberAndPlace (culvertCheck (closedGrid 3 4 15) cut 7 (pos 4) 12 12 12 12 48)) (18 ∷ 0 ∷ [])
-    ∷ numbers (numberAndPlace (culvertCheck (closedGrid 3 4 15) cut 12 (pos 4) 12 12 12 12 48)) (15 ∷ 12 ∷ [])
-    ∷ numbers (numberAndPlace (culvertCheck (closedGrid 3 4 15) cut 7 (pos 6) 12 12 12 12 48)) (16 ∷ 7 ∷ [])
+    ∷ numbers (numberAndPlace (culvertsCheck (closedGrid 3 4 15) cut (7 ∷ []) (pos 4 ∷ []) 12 12 12 12 48)) (18 ∷ 0 ∷ [])
+    ∷ numbers (numberAndPlace (culvertsCheck (closedGrid 3 4 15) cut (7 ∷ 12 ∷ []) (pos 4 ∷ pos 4 ∷ []) 12 12 12 12 48)) (15 ∷ 1 ∷ [])
+    ∷ numbers (numberAndPlace (culvertsCheck (closedGrid 3 4 15) cut (7 ∷ []) (pos 6 ∷ []) 12 12 12 12 48)) (16 ∷ 0 ∷ [])
     ∷ numbers (numberAndPlace (fillCheck (closedGrid 3 5 16) cut 0 0)) (17 ∷ 0 ∷ [])
     ∷ numbers (numberAndPlace (fillCheck (closedGrid 3 0 16) cut 0 0)) (6 ∷ 0 ∷ [])
     -- oblong cells of 3 by 4, with corners at 5: drops of 3, 4 and 5 tie, and the table decides; one more, and each leads
@@ -389,7 +413,7 @@ knownGround =
     ∷ numbers (shapeIn 0 1 1001 12) (20 ∷ 0 ∷ [])
     ∷ numbers (shapeIn 16 0 0 12) (17 ∷ 0 ∷ [])
     ∷ numbers (numberAndPlace (directionsCheck (shapedGrid 3 5 0 1 0) cut 12 48)) (20 ∷ 0 ∷ [])
-    ∷ numbers (numberAndPlace (culvertCheck (shapedGrid 3 4 0 0 1) cut 12 (pos 9) 12 12 12 12 0)) (20 ∷ 0 ∷ [])
+    ∷ numbers (numberAndPlace (culvertsCheck (shapedGrid 3 4 0 0 1) cut (12 ∷ []) [] 12 12 12 12 0)) (20 ∷ 0 ∷ [])
     ∷ numbers (numberAndPlace (fillCheck (shapedGrid 3 4 0 0 1001) cut 12 48)) (0 ∷ 0 ∷ [])
     -- a text: what is read from it, what is written, closed sides or not, and the same with its letters raised
     ∷ elevations (textSheet corners-read) corners

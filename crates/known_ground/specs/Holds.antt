@@ -11,10 +11,10 @@ use Rattle.grid.specs.Directions.{firstUnlevelled}
 use Rattle.grid.specs.Routes.{follow, endsBy, hasCode, receiver, countAt, labelAt, counts, labels, firstBadCode, firstEndless}
 use Rattle.grid.specs.Joined.{joinPass, joinPasses, joined}
 use Rattle.grid.specs.Ponds.{isWet, pondOf, lowestCell, isLowest, ponds, pondCount, natural, depth, pondLevel, pondCells, pondVolume}
-use Rattle.grid.specs.Culvert.{opened, isLevelFor}
+use Rattle.grid.specs.Culverts.{openedTo, opened, isLevelFor, isBadEntry, firstBadEntry}
 use Rattle.grid.specs.Checks.{inRange, askSize, allHave, askLengths, askSides, inShape, askShape, askSheets, askOutlets, askFlow}
 use Rattle.grid.specs.Checks.{askWork, askReach, askCodes}
-use Rattle.grid.specs.Checks.{askCulvert, fillCheck, directionsCheck, codesCheck, drainCheck, pondsCheck, culvertCheck}
+use Rattle.grid.specs.Checks.{askDescription, askEntries, fillCheck, directionsCheck, codesCheck, drainCheck, pondsCheck, culvertsCheck}
 use Rattle.grid.specs.Endings.{areNeighbours, isStray, firstStray, askList, endingCheck, sharedLength, sharedEnding}
 use Rattle.grid.specs.Crews.{isOnWay, isFinished, hasTrace, counted, stepped, turnOf, turn, turns, askTrace, handInCheck, handedIn}
 use Rattle.grid.specs.Crews.{firstLost, askLost, runCheck, collected, freed}
@@ -32,9 +32,9 @@ unfolding allHold knownGround table anyBelow sumBelow countBelow firstBelow join
     dropTo squaredDistance beats beaten isSteepest steepestSum member score bestOf choice isEqual hasDescent isLevelZero levelPassAt
     levelPasses levels flatSum directionAt directions firstUnlevelled follow endsBy hasCode receiver countAt labelAt counts labels
     firstBadCode firstEndless joinPass joinPasses joined isWet pondOf lowestCell isLowest ponds pondCount natural depth pondLevel
-    pondCells pondVolume opened isLevelFor inRange askSize allHave askLengths askSides inShape askShape askSheets askOutlets
-    askFlow askWork askReach askCodes
-    fillCheck directionsCheck codesCheck drainCheck pondsCheck askCulvert culvertCheck areNeighbours isStray firstStray askList
+    pondCells pondVolume openedTo opened isLevelFor isBadEntry firstBadEntry inRange askSize allHave askLengths askSides inShape askShape
+    askSheets askOutlets askDescription askFlow askWork askReach askCodes
+    fillCheck directionsCheck codesCheck drainCheck pondsCheck askEntries culvertsCheck areNeighbours isStray firstStray askList
     endingCheck sharedLength sharedEnding hexValue isTextByte number4 textGrid endsLine
     isShaped firstBadByte readCheck fromTwos toTwos textSheet upperDigit hexText sheetText headerText elevationText resultText
     refusalText drainText programText writeCheck raised isOnWay isFinished hasTrace counted stepped turnOf turn turns askTrace handInCheck

@@ -90,10 +90,7 @@ pub fn check_lists(g: Grid, first: &[u32], second: &[u32]) -> Located
 {
     let answer = checks::rows_and_cols(g);
     if answer.number != 0 {
-        return Located {
-            number: answer.number,
-            place: answer.place as usize,
-        };
+        return checks::located(answer);
     }
     let stray = first_stray(g, first);
     if stray < first.len() {

@@ -9,7 +9,7 @@ use grid::Grid;
 use grid::Located;
 use grid::Part;
 ghost use Rattle.grid.specs.Sheet.{gridOf, closedGrid, shapedGrid};
-ghost use Rattle.grid.specs.Promises.{CollectPromise, CountsPromise, CulvertPromise, DirectionsPromise, DrainPromise, FillPromise};
+ghost use Rattle.grid.specs.Promises.{CollectPromise, CountsPromise, CulvertsPromise, DirectionsPromise, DrainPromise, FillPromise};
 ghost use Rattle.grid.specs.Promises.{HandInPromise, LabelsPromise, ListsPromise, PartPromise, PondsPromise, PourPointsPromise};
 ghost use Rattle.grid.specs.Promises.{ReadPromise, RunPromise, StartsPromise, WatershedsPromise, WritePromise};
 
@@ -161,26 +161,26 @@ pub extern "C" fn tervuola_drain(
     drainage::drain(g, elevations, filled, codes, counts, labels, work)
 }
 
-// Elevations, a cell and a level to the four results of the sheet with the cell at that level.
+// Elevations and lists of cells and levels to the four results of the sheet with each of these cells at its lowest level.
 #[no_mangle]
-pub extern "C" fn tervuola_culvert(
+pub extern "C" fn tervuola_culverts(
     rows: u32,
     cols: u32,
     sides: u32,
     width: u32,
     height: u32,
     elevations: &[i16],
-    cell: u32,
-    level: i16,
+    cells: &[u32],
+    levels: &[i16],
     filled: &mut [i16],
     codes: &mut [u8],
     counts: &mut [u32],
     labels: &mut [u32],
     work: &mut [u32],
-) -> Answer
-    ensures { λ r. ⌜ CulvertPromise (shapedGrid rows cols sides width height) (now (elevations .entry)) cell level (now (filled .entry))
-        (now (filled .exit)) (now (codes .entry)) (now (codes .exit)) (now (counts .entry)) (now (counts .exit)) (now (labels .entry))
-        (now (labels .exit)) (now (work .entry)) (now (work .exit)) r ⌝ }
+) -> Located
+    ensures { λ r. ⌜ CulvertsPromise (shapedGrid rows cols sides width height) (now (elevations .entry)) (now (cells .entry))
+        (now (levels .entry)) (now (filled .entry)) (now (filled .exit)) (now (codes .entry)) (now (codes .exit)) (now (counts .entry))
+        (now (counts .exit)) (now (labels .entry)) (now (labels .exit)) (now (work .entry)) (now (work .exit)) r ⌝ }
 {
     let g = Grid {
         rows: rows as usize,
@@ -189,11 +189,11 @@ pub extern "C" fn tervuola_culvert(
         width: width as usize,
         height: height as usize,
     };
-    culvert::culvert(
+    culverts::culverts(
         g,
         elevations,
-        cell,
-        level,
+        cells,
+        levels,
         filled,
         codes,
         counts,

@@ -1,4 +1,5 @@
 -- `lists::check_lists`: each return is a case of what is asked.
+use mathlib.Core.Path.{_∙_}
 use denote.Ref.{now}
 use borrow.Author.Needs.{needs}
 use Rattle.lists.proofs.Promise.{bad-size, fits, bad-first, bad-second, none-bad}
@@ -8,12 +9,13 @@ use Rattle.lists.proofs.check_lists.Tie as tie
 rows-and-cols-requires : tie.Need-rows-and-cols-requires
 rows-and-cols-requires c κs = search needs
 
-cast-t8 : tie.Need-cast-t8
-cast-t8 c = search needs
+located-requires : tie.Need-located-requires
+located-requires c κs = search needs
 
 returns : tie.Need-returns
 returns c =
-    let a = c .before .before .before .rows-and-cols in record { answer = bad-size _ _ _ _ (a .ensures) (c .before .if1 .taken) }
+    let a = c .before .before .before .rows-and-cols in
+    record { answer = c .located .ensures ∙ bad-size _ _ _ _ (a .ensures) (c .before .if1 .taken) }
 
 first-stray-requires : tie.Need-first-stray-requires
 first-stray-requires c κs =
@@ -54,7 +56,7 @@ check-lists-spec =
     tie.close
     (tie.spec
     rows-and-cols-requires
-    cast-t8
+    located-requires
     returns
     first-stray-requires
     returns-2

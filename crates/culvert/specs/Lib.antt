@@ -1,2 +1,0 @@
--- Asked   the questions of the culvert before 18
-pub mod Asked
