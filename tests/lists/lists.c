@@ -2,7 +2,7 @@
  * The calls that take lists: the two about lists of cells, and culverts.
  *   lists            lists up to the edges of memory that cannot be read: no place outside them is looked at, and none of them is written
  *   lists long       a list of more than 2^32 cells: the place of a cell off the sheet, and of the shared ending, past 2^32
- *   lists culverts   as many culverts: the place of a bad one past 2^32
+ *   lists culverts   as many culverts: a bad one, and one with the lowest level of its cell, past 2^32
  */
 #define _DEFAULT_SOURCE
 #include "tervuola.h"
@@ -134,15 +134,18 @@ static void longest(void)
     printf("lists: places past 2^32\n");
 }
 
-/* All levels are 0, but for one above its cell. */
+/* All levels are 0, but for a lower one of cell 1. */
 static void most_culverts(void)
 {
-    static const int16_t elevations[3] = {5, 5, -9};
+    static const int16_t elevations[3] = {5, 5, -9}, filled[3] = {0, -3, -9};
     uint32_t *cells = to_and_fro();
     int16_t *levels = repeated(sizeof *levels);
     struct four r;
-    levels[PLACE] = 6;
+    levels[PLACE] = -3;
     tervuola_located answer = culverts(elevations, cells, LONG, levels, LONG, &r);
+    if (answer.number || answer.place || memcmp(r.filled, filled, sizeof filled)) fail("the lowest level in a long list of culverts");
+    levels[PLACE] = 6;
+    answer = culverts(elevations, cells, LONG, levels, LONG, &r);
     if (answer.number != TERVUOLA_BAD_LEVEL || answer.place != PLACE) fail("the place of a culvert in a long list");
     printf("lists: culverts past 2^32\n");
 }
