@@ -1,0 +1,2 @@
+-- What a search for labels that are used twice has on the way.
+pub mod Listed

@@ -1,0 +1,2 @@
+-- The lemmas of this crate: what a pass over the labels asks for and leaves.
+pub mod Groups
