@@ -13,10 +13,12 @@ use Rattle.grid.specs.Sheet.{gridOf, closedGrid, shapedGrid, eqZ}
 use Rattle.grid.specs.Outlet.{isGap, isOutlet}
 use Rattle.grid.specs.Fill.{filled}
 use Rattle.grid.specs.Directions.{choice, directions}
-use Rattle.grid.specs.Routes.{route, counts, labels}
+use Rattle.grid.specs.Routes.{route, counts, labels, watersheds, firstRepeat}
+use Rattle.grid.specs.Starts.{starts}
 use Rattle.grid.specs.Ponds.{ponds, pondCount, pondLevel, pondCells, pondVolume}
 use Rattle.grid.specs.Culverts.{opened}
 use Rattle.grid.specs.Checks.{accepted, askSize, fillCheck, directionsCheck, drainCheck, codesCheck, pondsCheck, culvertsCheck}
+use Rattle.grid.specs.Checks.{watershedsCheck}
 use Rattle.grid.specs.Endings.{endingCheck, sharedEnding}
 use Rattle.grid.specs.Crews.{largest, standsOn, nextCrew, totalOf, handInCheck, runCheck, collected}
 use Rattle.grid.specs.Operations.{Operation, run, hand-in, collect, afterAll, zeros}
@@ -224,6 +226,11 @@ listsIn : List ℕ → List ℕ → List ℕ
 unfolding numberAndPlace
 listsIn first second = numberAndPlace (endingCheck (gridOf 3 5) first second)
 
+-- number and place of watersheds for starts on a 2 by 3 sheet whose fourth cell is a void and whose rows flow east
+gauged : List ℕ → List ℕ
+unfolding numberAndPlace
+gauged starts = numberAndPlace (watershedsCheck (gridOf 2 3) (2 ∷ 2 ∷ 2 ∷ 0 ∷ 2 ∷ 2 ∷ []) starts 6 24)
+
 basinCodes : List ℕ
 basinCodes = directions (gridOf 5 5) basin
 
@@ -280,8 +287,8 @@ runIn work s = numberAndPlace (runCheck (gridOf 1 4) streams work s)
 
 unfoldable pub knownGround : List Case
 unfolding printed-input printed-output voids between middle basin hole island lagoon lake oneWhere pools poolNumbers bank opened-bank road
-    cut eastward corners corners-read corners-written numberAndPlace culvertsIn writeIn listsIn codeAmid shapeIn basinCodes openedCodes
-    eastwardCodes streams crewsAfter traced standing collectedIn handIn runIn
+    cut eastward corners corners-read corners-written numberAndPlace culvertsIn writeIn listsIn codeAmid shapeIn gauged basinCodes
+    openedCodes eastwardCodes streams crewsAfter traced standing collectedIn handIn runIn
 knownGround =
     -- P1: the printed example, from text to text
     numbers (programText printed-input) printed-output
@@ -486,6 +493,27 @@ knownGround =
     ∷ numbers (runIn 16 (set (set (set (set zeros 9 1) 41 2) 7 1) 39 4)) (23 ∷ 7 ∷ [])
     ∷ numbers (runIn 16 (set (set zeros 9 2) 41 2)) (0 ∷ 0 ∷ [])
     ∷ numbers (runIn 15 (set (set zeros 9 1) 41 2)) (9 ∷ 0 ∷ [])
+    -- gauges: labels that differ pass, in any one byte too, and 0 on many cells; a label on two cells gets 24
+    ∷ numbers (gauged (0 ∷ 0 ∷ 0 ∷ 0 ∷ 0 ∷ 0 ∷ [])) (0 ∷ 0 ∷ [])
+    ∷ numbers (gauged (0 ∷ 9 ∷ 0 ∷ 0 ∷ 0 ∷ 7 ∷ [])) (0 ∷ 0 ∷ [])
+    ∷ numbers (gauged (1 ∷ 257 ∷ 65537 ∷ 0 ∷ 16777217 ∷ 2 ∷ [])) (0 ∷ 0 ∷ [])
+    ∷ numbers (gauged (7 ∷ 0 ∷ 0 ∷ 0 ∷ 0 ∷ 7 ∷ [])) (24 ∷ 5 ∷ [])
+    ∷ numbers (gauged (4294967295 ∷ 4294967295 ∷ 1 ∷ 0 ∷ 0 ∷ 2 ∷ [])) (24 ∷ 1 ∷ [])
+    -- the place is the second cell of the lowest repeated label, not of the one met first nor of the lowest label, and not the last
+    ∷ numbers (gauged (9 ∷ 9 ∷ 4 ∷ 0 ∷ 4 ∷ 1 ∷ [])) (24 ∷ 4 ∷ [])
+    ∷ numbers (gauged (4 ∷ 9 ∷ 9 ∷ 0 ∷ 4 ∷ 9 ∷ [])) (24 ∷ 4 ∷ [])
+    ∷ numbers (gauged (9 ∷ 0 ∷ 9 ∷ 0 ∷ 9 ∷ 9 ∷ [])) (24 ∷ 2 ∷ [])
+    -- after 9, 11, 12 and 13
+    ∷ numbers (gauged (7 ∷ 7 ∷ 0 ∷ 7 ∷ 0 ∷ 0 ∷ [])) (13 ∷ 3 ∷ [])
+    ∷ numbers (numberAndPlace (watershedsCheck (gridOf 1 2) (2 ∷ 2 ∷ []) (7 ∷ 7 ∷ []) 2 7)) (9 ∷ 0 ∷ [])
+    ∷ numbers (numberAndPlace (watershedsCheck (gridOf 1 2) (2 ∷ 3 ∷ []) (7 ∷ 7 ∷ []) 2 8)) (11 ∷ 1 ∷ [])
+    ∷ numbers (numberAndPlace (watershedsCheck (gridOf 1 2) (2 ∷ 32 ∷ []) (7 ∷ 7 ∷ []) 2 8)) (12 ∷ 0 ∷ [])
+    ∷ numbers (numberAndPlace (watershedsCheck (gridOf 1 2) (2 ∷ 2 ∷ []) (7 ∷ 7 ∷ []) 2 8)) (24 ∷ 1 ∷ [])
+    -- Table 5's own starts, which pass, and the watersheds that they give
+    ∷ numbers (starts eastward eastwardCodes (counts eastward eastwardCodes) 0) (0 ∷ 0 ∷ 0 ∷ 0 ∷ 1 ∷ 2 ∷ 3 ∷ 0 ∷ 0 ∷ 0 ∷ 0 ∷ 0 ∷ [])
+    ∷ numbers (firstRepeat eastward (starts eastward eastwardCodes (counts eastward eastwardCodes) 0) ∷ []) (12 ∷ [])
+    ∷ numbers (watersheds eastward eastwardCodes (0 ∷ 0 ∷ 0 ∷ 0 ∷ 1 ∷ 2 ∷ 3 ∷ 0 ∷ 0 ∷ 0 ∷ 0 ∷ 0 ∷ []))
+    (1 ∷ 2 ∷ 0 ∷ 0 ∷ 1 ∷ 2 ∷ 3 ∷ 0 ∷ 1 ∷ 2 ∷ 0 ∷ 0 ∷ [])
     -- "Rows 4,000 passes, 4,001 gets 5. Codes 2 and 32 side by side, facing each other, get 12"
     ∷ numbers ((askSize (gridOf 4000 1) accepted) .number ∷ []) (0 ∷ [])
     ∷ numbers ((askSize (gridOf 4001 1) accepted) .number ∷ []) (5 ∷ [])

@@ -1,6 +1,6 @@
 -- From the numbers to the cells: the lowest number that stands twice in the list is the lowest repeated label.
-use mathlib.Core.Path.{_≡_, refl, sym, _∙_, ap}
-use mathlib.Core.Bool.{true, false, _&&_}
+use mathlib.Core.Path.{_≡_, sym, _∙_, ap}
+use mathlib.Core.Bool.{false, _&&_}
 use mathlib.Core.Logic.{inl, inr}
 use mathlib.Core.List.{List}
 use Prim.Native.Nat.{ℕ, _+_, _≤_, _<_}
@@ -50,7 +50,8 @@ module _ (g : Grid) (m base : ℕ) (starts w : List ℕ) (L : Listed (size g) m 
       (λ e. let r = repeated-twice g starts c h e in let n = pair c (r .0) (r .1) in A (n .0) (n .1) (n .2) (n .3) (n .4)))
 
   second-of : (v i k : ℕ) → i < k → k < m → numberIn base w i ≡ v → numberIn base w k ≡ v →
-      ((i k : ℕ) → i < k → k < m → numberIn base w i ≡ numberIn base w k → v ≤ numberIn base w i) → firstRepeat g starts ≡ secondCell g starts v
+      ((i k : ℕ) → i < k → k < m → numberIn base w i ≡ numberIn base w k → v ≤ numberIn base w i) →
+      firstRepeat g starts ≡ secondCell g starts v
   second-of v i k l h p q low = go (L .onto i (omega arith)) (L .onto k h)
     where
       label : (j : ℕ) (a : At j) → numberIn base w j ≡ getD starts (a .0) 0
@@ -90,7 +91,8 @@ module _ (g : Grid) (starts : List ℕ) (v : ℕ) where
   unlike c n = and-false-left _ (ne-eqb (getD starts c 0) v n)
 
   -- up to the first cell with the label none has one before it
-  lonely : (f : ℕ) → NoneFrom starts v 0 f → (c : ℕ) → c ≤ f → (eqb (getD starts c 0) v && anyBelow c (λ d. eqb (getD starts d 0) v)) ≡ false
+  lonely : (f : ℕ) → NoneFrom starts v 0 f → (c : ℕ) → c ≤ f →
+      (eqb (getD starts c 0) v && anyBelow c (λ d. eqb (getD starts d 0) v)) ≡ false
   lonely f n c h =
       and-false-right (eqb (getD starts c 0) v)
       (none-of c (λ d. eqb (getD starts d 0) v) (λ d l. ne-eqb (getD starts d 0) v (n d (omega arith) (omega arith))))

@@ -3,19 +3,22 @@ use mathlib.Core.Path.{_≡_, refl, sym, _∙_, ap, subst}
 use mathlib.Core.List.{List, [], _∷_}
 use Prim.Native.Nat.{ℕ, _*_, _≤_, _<_}
 use native.Mathlib.Omega.{arith}
+use lib.Dec.{T}
 use lib.ListN.{length}
 use Rattle.grid.specs.declared.Grid.{Grid}
 use Rattle.grid.specs.declared.Answer.{Answer}
 use Rattle.grid.specs.declared.Counted.{Counted}
 use Rattle.grid.specs.Sheet.{size}
-use Rattle.grid.specs.Routes.{firstBadCode, firstEndless}
+use Rattle.grid.specs.Routes.{firstBadCode, firstEndless, firstRepeat}
 use Rattle.grid.specs.Starts.{starts, startCount}
-use Rattle.grid.specs.Checks.{accepted, refusal, askSheets, askWork, askCell, askCodes, startsCheck}
-use Rattle.grid.specs.Promises.{StartsPromise}
+use Rattle.grid.specs.Checks.{accepted, refusal, isAccepted, askSheets, askWork, askCell, askCodes, ofCounted, startsCheck}
+use Rattle.grid.specs.Promises.{resultOf, StartsPromise}
+use Rattle.grid_laws.proofs.Tests.{T-true, cond-true}
 use Rattle.checks.specs.Sizes.{Fits}
 use Rattle.checks.proofs.Gate.{Gate, kept, passed, answered-no, answered-yes}
 use Rattle.checks.proofs.Asked.{Sized, check-gate, two-inputs}
 use Rattle.checks.proofs.Questions.{bad-≤, cell-yes, codes-bad, Late, yes-late, cell-late}
+use Rattle.repeat_laws.proofs.TableFive.{starts-pass}
 use Rattle.starts.specs.Into.{Started}
 
 -- rows, columns and every length as the call wants them
@@ -25,6 +28,13 @@ pub record Sizes (g : Grid) (codes counts s₀ w₀ : List ℕ) : Type 0 where
   pub counts-long : length counts ≡ size g
   pub result-long : length s₀ ≡ size g
   pub room : 4 * size g ≤ length w₀
+
+-- the call's own starts have no label twice
+own-pass : (g : Grid) (codes counts : List ℕ) (threshold : ℕ) (s₀ s₁ : List ℕ) (a : Answer) →
+    s₁ ≡ resultOf a (starts g codes counts threshold) s₀ → T (isAccepted a) → firstRepeat g s₁ ≡ size g
+own-pass g codes counts threshold s₀ s₁ a e t =
+    ap (firstRepeat g) (e ∙ cond-true (starts g codes counts threshold) s₀
+    (T-true (isAccepted a) t)) ∙ starts-pass g codes counts threshold
 
 module _ (g : Grid) (codes counts : List ℕ) (threshold : ℕ) (s₀ w₀ : List ℕ) (r : Answer)
     (asked : r ≡ askSheets g (length codes ∷ length counts ∷ []) (length s₀ ∷ length s₀ ∷ length s₀ ∷ length s₀ ∷ [])
@@ -45,6 +55,7 @@ module _ (g : Grid) (codes counts : List ℕ) (threshold : ℕ) (s₀ w₀ : Lis
         answer = answered-no before-11 answered n (askCodes g codes accepted);
         count = kept n (startCount g codes counts threshold);
         result = kept n (starts g codes counts threshold);
+        distinct = own-pass g codes counts threshold s₀ s₀ r (kept n (starts g codes counts threshold));
         work = record { same-length = refl; untouched = λ _. refl };
       }
 
@@ -72,6 +83,7 @@ module _ (g : Grid) (codes counts : List ℕ) (threshold : ℕ) (s₀ w₀ : Lis
           answer = ap (refusal 11) e ∙ sym (codes-bad g codes accepted (omega arith)) ∙ check-is;
           count = refl;
           result = refl;
+          distinct = λ z. absurd z;
           work = record { same-length = refl; untouched = λ _. refl };
         }
 
@@ -86,6 +98,7 @@ module _ (g : Grid) (codes counts : List ℕ) (threshold : ℕ) (s₀ w₀ : Lis
           answer = S .answer ∙ sym (cell-yes 11 (firstBadCode g codes) g (askCell 12 g (firstEndless g codes) accepted) good) ∙ check-is;
           count = S .count;
           result = S .result;
+          distinct = own-pass g codes counts threshold s₀ s₁ (ofCounted k) (S .result);
           work = record { same-length = same; untouched = λ t. absurd (subst Late (sym (S .answer)) late t) };
         }
       where

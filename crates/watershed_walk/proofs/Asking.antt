@@ -1,6 +1,7 @@
--- The answer to 13, by the first cell for which it is no, after those to 11 and 12.
+-- The answers to 13 and 24, each by the first cell for which it is no, after those to 11 and 12.
 use mathlib.Core.Path.{_≡_, sym, _∙_, ap}
 use mathlib.Core.Bool.{true, false, _&&_}
+use mathlib.Core.Logic.{⊎-elim}
 use mathlib.Core.List.{List}
 use Prim.Native.Nat.{ℕ, _≤_, _<_}
 use native.Mathlib.Omega.{arith}
@@ -11,10 +12,11 @@ use Rattle.grid.specs.declared.Grid.{Grid}
 use Rattle.grid.specs.declared.Answer.{Answer}
 use Rattle.grid.specs.Below.{firstBelow}
 use Rattle.grid.specs.Sheet.{size}
-use Rattle.grid.specs.Routes.{firstBadCode, firstEndless, firstBadStart}
-use Rattle.grid.specs.Checks.{accepted, refusal, askCell, askCodes}
+use Rattle.grid.specs.Routes.{firstBadCode, firstEndless, firstBadStart, lowestRepeated, secondCell, firstRepeat}
+use Rattle.grid.specs.Checks.{accepted, refusal, askCell, askCodes, askStarts}
+use Rattle.grid_laws.proofs.Tests.{test}
 use Rattle.grid_laws.proofs.Below.{first-is, first-none, first-≤}
-use Rattle.checks.proofs.Gate.{both, passed, answered-no, answered-yes, is-accepted}
+use Rattle.checks.proofs.Gate.{both, passed, answered-no, answered-yes}
 use Rattle.checks.proofs.Questions.{cell-no, cell-yes, cell-gate, codes-gate}
 
 -- ---- question 13
@@ -40,26 +42,41 @@ pub stray-≤ : (g : Grid) (codes starts : List ℕ) → firstBadStart g codes s
 unfolding firstBadStart
 stray-≤ g codes starts = first-≤ (size g) _
 
+-- ---- question 24
+pub repeat-≤ : (g : Grid) (starts : List ℕ) → firstRepeat g starts ≤ size g
+unfolding firstRepeat secondCell
+repeat-≤ g starts =
+    ⊎-elim (λ e. rw e (omega arith)) (λ e. rw e (first-≤ (size g) _)) (test (eqb (lowestRepeated g starts (size g)) 0))
+
 -- ---- the answers
 abbrev pub routesCheck : Grid → List ℕ → List ℕ → Answer
-routesCheck g codes starts = askCodes g codes (askCell 13 g (firstBadStart g codes starts) accepted)
+routesCheck g codes starts = askCodes g codes (askStarts g codes starts accepted)
 
-module _ (g : Grid) (codes starts : List ℕ) (long : length codes ≡ size g) (r : Answer) (asked : r ≡ askCodes g codes accepted) where
+module _ (g : Grid) (codes starts : List ℕ) (long : length codes ≡ size g) (b : ℕ) (e : b ≡ firstBadStart g codes starts) where
+  pub answer-13 : b < length codes → refusal 13 b ≡ askStarts g codes starts accepted
+  answer-13 h =
+      ap (refusal 13) e ∙ sym (cell-no 13 (firstBadStart g codes starts) g (askCell 24 g (firstRepeat g starts) accepted) (omega arith))
+
+  module _ (none : length codes ≤ b) where
+    passed-13 : askCell 24 g (firstRepeat g starts) accepted ≡ askStarts g codes starts accepted
+    passed-13 =
+        let q = stray-≤ g codes starts in
+        sym (cell-yes 13 (firstBadStart g codes starts) g (askCell 24 g (firstRepeat g starts) accepted) (omega arith))
+
+    module _ (d : ℕ) (q : d ≡ firstRepeat g starts) where
+      pub answer-24 : d < length codes → refusal 24 d ≡ askStarts g codes starts accepted
+      answer-24 h = ap (refusal 24) q ∙ (sym (cell-no 24 (firstRepeat g starts) g accepted (omega arith)) ∙ passed-13)
+
+      pub answer-yes : length codes ≤ d → accepted ≡ askStarts g codes starts accepted
+      answer-yes h = let l = repeat-≤ g starts in sym (cell-yes 24 (firstRepeat g starts) g accepted (omega arith)) ∙ passed-13
+
+module _ (g : Grid) (codes starts : List ℕ) (r : Answer) (asked : r ≡ askCodes g codes accepted) where
   -- a no to 11 or 12
   pub answer-no : (r .number ≡ 0 → ⊥) → r ≡ routesCheck g codes starts
-  answer-no n = answered-no (codes-gate g codes) asked n (askCell 13 g (firstBadStart g codes starts) accepted)
+  answer-no n = answered-no (codes-gate g codes) asked n (askStarts g codes starts accepted)
 
-  module _ (yes : r .number ≡ 0) (b : ℕ) (e : b ≡ firstBadStart g codes starts) where
-    pub answer-13 : b < length codes → refusal 13 b ≡ routesCheck g codes starts
-    answer-13 h =
-        ap (refusal 13) e ∙ sym (cell-no 13 (firstBadStart g codes starts) g accepted (omega arith))
-        ∙ answered-yes (codes-gate g codes) asked yes (askCell 13 g (firstBadStart g codes starts) accepted)
-
-    pub answer-yes : length codes ≤ b → r ≡ routesCheck g codes starts
-    answer-yes h =
-        let q = stray-≤ g codes starts in
-        is-accepted (codes-gate g codes) asked yes ∙ sym (cell-yes 13 (firstBadStart g codes starts) g accepted (omega arith))
-        ∙ answered-yes (codes-gate g codes) asked yes (askCell 13 g (firstBadStart g codes starts) accepted)
+  pub answer-after : r .number ≡ 0 → (a : Answer) → a ≡ askStarts g codes starts accepted → a ≡ routesCheck g codes starts
+  answer-after z a e = e ∙ answered-yes (codes-gate g codes) asked z (askStarts g codes starts accepted)
 
 -- ---- what an accepted answer says
 pub record AllYes (g : Grid) (codes starts : List ℕ) : Type 0 where
@@ -69,5 +86,7 @@ pub record AllYes (g : Grid) (codes starts : List ℕ) : Type 0 where
 
 pub all-yes : (g : Grid) (codes starts : List ℕ) (r : Answer) → r ≡ routesCheck g codes starts → r .number ≡ 0 → AllYes g codes starts
 all-yes g codes starts r e z =
-    let f = passed (both (codes-gate g codes) (cell-gate 13 (firstBadStart g codes starts) g (omega arith))) e z .fact in
-    record { no-bad = f .0 .0; no-endless = f .0 .1; no-stray = f .1 }
+    let f = passed (both (codes-gate g codes)
+    (both (cell-gate 13 (firstBadStart g codes starts) g (omega arith))
+    (cell-gate 24 (firstRepeat g starts) g (omega arith)))) e z .fact in
+    record { no-bad = f .0 .0; no-endless = f .0 .1; no-stray = f .1 .0 }

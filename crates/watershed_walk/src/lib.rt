@@ -1,7 +1,7 @@
 // Watersheds from starts: "A cell's watershed is the label of the first start on its route, itself included, else 0". Each start is made
 // the end of its route, so that the walk (crate `walk`) finds the first start or, where there is none, the route's last cell; the
-// watershed is the start there. That this is the definition is a law (`route_laws`, `proofs/Starts`). Questions 11 to 13 are answered here
-// too, by way of the same tail.
+// watershed is the start there. That this is the definition is a law (`route_laws`, `proofs/Starts`). Questions 11 to 13 and 24 are
+// answered here too, by way of the same tail.
 use grid::Answer;
 use grid::Grid;
 ghost use mathlib.Core.Path.{_≡_};
@@ -13,7 +13,7 @@ ghost use lib.ListN.{length, getD, take, drop, set};
 ghost use Rattle.grid.specs.Below.{table};
 ghost use Rattle.grid.specs.Sheet.{size};
 ghost use Rattle.grid.specs.Routes.{firstEndless, firstBadStart, watersheds as watersheds'};
-ghost use Rattle.grid.specs.Checks.{accepted, askCell, askCodes};
+ghost use Rattle.grid.specs.Checks.{accepted, askCodes, askStarts};
 ghost use Rattle.grid.specs.Promises.{resultOf};
 ghost use Rattle.route_laws.specs.Receivers.{AllCodes};
 ghost use Rattle.route_laws.specs.Starts.{cut, startOf};
@@ -125,30 +125,51 @@ fn first_bad_start(g: Grid, codes: &[u8], starts: &[u32]) -> usize
     c
 }
 
-// Questions 11 to 13.
-fn routes_check(g: Grid, codes: &[u8], starts: &[u32], tail: &mut [u32]) -> Answer
+// Questions 13 and 24.
+fn starts_check(g: Grid, codes: &[u8], starts: &[u32], tail: &mut [u32]) -> Answer
     requires { ⌜ Fits g ⌝ }
     requires { ⌜ length (now codes) ≡ size g ⌝ }
     requires { ⌜ length (now starts) ≡ size g ⌝ }
-    requires { ⌜ size g ≤ length (now tail) ⌝ }
-    ensures { λ r. ⌜ r
-        ≡ askCodes g (now (codes .entry)) (askCell 13 g (firstBadStart g (now (codes .entry)) (now (starts .entry))) accepted) ⌝ }
+    requires { ⌜ size g + size g ≤ length (now tail) ⌝ }
+    ensures { λ r. ⌜ r ≡ askStarts g (now (codes .entry)) (now (starts .entry)) accepted ⌝ }
 {
-    let answer = code_check::codes_check(g, codes, tail);
-    if answer.number != 0 {
-        return answer;
-    }
+    let given = codes.len();
     let stray = first_bad_start(g, codes, starts);
-    if stray < codes.len() {
+    if stray < given {
         return Answer {
             number: 13,
             place: stray as u32,
         };
     }
-    answer
+    let repeat = repeats::first_repeat(g, starts, tail);
+    if repeat < given {
+        return Answer {
+            number: 24,
+            place: repeat as u32,
+        };
+    }
+    Answer {
+        number: 0,
+        place: 0,
+    }
 }
 
-// Questions 11 to 13, and after a yes the watersheds.
+// Questions 11 to 13 and 24.
+fn routes_check(g: Grid, codes: &[u8], starts: &[u32], tail: &mut [u32]) -> Answer
+    requires { ⌜ Fits g ⌝ }
+    requires { ⌜ length (now codes) ≡ size g ⌝ }
+    requires { ⌜ length (now starts) ≡ size g ⌝ }
+    requires { ⌜ size g + size g ≤ length (now tail) ⌝ }
+    ensures { λ r. ⌜ r ≡ askCodes g (now (codes .entry)) (askStarts g (now (codes .entry)) (now (starts .entry)) accepted) ⌝ }
+{
+    let answer = code_check::codes_check(g, codes, tail);
+    if answer.number != 0 {
+        return answer;
+    }
+    starts_check(g, codes, starts, tail)
+}
+
+// Questions 11 to 13 and 24, and after a yes the watersheds.
 pub fn watersheds_of(
     g: Grid,
     codes: &[u8],
@@ -160,9 +181,8 @@ pub fn watersheds_of(
     requires { ⌜ length (now codes) ≡ size g ⌝ }
     requires { ⌜ length (now starts) ≡ size g ⌝ }
     requires { ⌜ length (now watersheds) ≡ size g ⌝ }
-    requires { ⌜ size g ≤ length (now tail) ⌝ }
-    ensures { λ r. ⌜ r
-        ≡ askCodes g (now (codes .entry)) (askCell 13 g (firstBadStart g (now (codes .entry)) (now (starts .entry))) accepted) ⌝ }
+    requires { ⌜ size g + size g ≤ length (now tail) ⌝ }
+    ensures { λ r. ⌜ r ≡ askCodes g (now (codes .entry)) (askStarts g (now (codes .entry)) (now (starts .entry)) accepted) ⌝ }
     ensures { λ r. ⌜ now (watersheds .exit)
         ≡ resultOf r (watersheds' g (now (codes .entry)) (now (starts .entry))) (now (watersheds .entry)) ⌝ }
 {

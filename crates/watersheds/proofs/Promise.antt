@@ -6,8 +6,8 @@ use lib.ListN.{length}
 use Rattle.grid.specs.declared.Grid.{Grid}
 use Rattle.grid.specs.declared.Answer.{Answer}
 use Rattle.grid.specs.Sheet.{size}
-use Rattle.grid.specs.Routes.{watersheds, firstBadStart}
-use Rattle.grid.specs.Checks.{accepted, askSheets, askWork, watershedsCheck}
+use Rattle.grid.specs.Routes.{watersheds, firstBadStart, firstRepeat}
+use Rattle.grid.specs.Checks.{accepted, askSheets, askWork, askCell, watershedsCheck}
 use Rattle.grid.specs.Promises.{resultOf, WatershedsPromise}
 use Rattle.checks.specs.Sizes.{Fits}
 use Rattle.checks.proofs.Gate.{Gate, kept, passed, answered-no, answered-yes}
@@ -26,7 +26,7 @@ pub record Sizes (g : Grid) (codes starts k₀ w₀ : List ℕ) : Type 0 where
 module _ (g : Grid) (codes starts k₀ w₀ : List ℕ) (r : Answer)
     (asked : r ≡ askSheets g (length codes ∷ length starts ∷ []) (length k₀ ∷ length k₀ ∷ length k₀ ∷ length k₀ ∷ [])
     (askWork g (length w₀) accepted)) where
-  -- what 11 to 13 are asked after
+  -- what 11 to 13 and 24 are asked after
   before-11 : Gate (λ later. askSheets g (length codes ∷ length starts ∷ []) (length k₀ ∷ []) (askWork g (length w₀) later))
       (Sized g (length codes ∷ length starts ∷ []) (length k₀ ∷ []) (length w₀))
   before-11 = check-gate g (length codes ∷ length starts ∷ []) (length k₀ ∷ []) (length w₀)
@@ -66,4 +66,6 @@ module _ (g : Grid) (codes starts k₀ w₀ : List ℕ) (r : Answer)
         }
       where
         late : Late (routesCheck g codes starts)
-        late = codes-late g codes _ (cell-late 13 (firstBadStart g codes starts) g accepted tt yes-late)
+        late =
+            codes-late g codes _ (cell-late 13 (firstBadStart g codes starts) g (askCell 24 g (firstRepeat g starts) accepted) tt
+            (cell-late 24 (firstRepeat g starts) g accepted tt yes-late))
