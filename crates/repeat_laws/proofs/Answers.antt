@@ -78,6 +78,10 @@ module _ (g : Grid) (m base : ℕ) (starts w : List ℕ) (L : Listed (size g) m 
   answer-none v (inl p) e = none-repeated (p .1)
   answer-none v (inr p) e = let l = p .0 in let z : ⊥ = omega arith in absurd z
 
+  -- fewer than two labels
+  pub answer-few : m < 2 → firstRepeat g starts ≡ size g
+  answer-few l = none-repeated (λ i k h o _. omega arith)
+
   pub answer-second : (v : ℕ) → LowestTwice (numberIn base w) m v → (v ≡ 0 → ⊥) → firstRepeat g starts ≡ secondCell g starts v
   answer-second v (inl p) n = absurd (n (p .0))
   answer-second v (inr p) n =
