@@ -12,7 +12,8 @@
  * the directions call with cells of 3 by 4 beside the same with square ones, whose codes must be those of any square cells. The
  * line "closed" is the one call with the south side alone open; of its results no more is looked at than that nothing is filled
  * lower than with every side open. The line "run" is a run without a turn, which asks 11 and 12, beside the labels call, which asks
- * them too; the line "turns" is of a small sheet of its own.
+ * them too; the line "turns" is of a small sheet of its own. The lines "starts", "all starts" and "shuffled" are the watersheds beside the
+ * labels call: of about a thousand starts, and of one on every cell with a code, numbered by cell and in no order.
  */
 #define main baseline_main
 #include "baseline.c"
@@ -137,6 +138,36 @@ static void turn_line(int runs)
     double check = least_run(s, code, 0, &begun, work, 10 * runs, 1), turned = least_run(s, code, UINT16_MAX, &begun, work, 10 * runs, 1);
     printf("  %-10s %-8s %7.2f  library %7.2f ns a turn  ratio %.2f\n", "turns", "expert's", best * 1e6 / UINT16_MAX, (turned - check) * 1e6 / UINT16_MAX,
            (turned - check) / best);
+}
+
+/* The best of some runs of the watersheds of starts, on one cell out of so many where it has a code, numbered by cell or shuffled. A start
+ * is in its own watershed. */
+static double least_watersheds(struct sheet s, const uint8_t *code, uint32_t out_of, int shuffled, uint32_t *starts, uint32_t *sheds,
+                               uint32_t *work, int runs, int times)
+{
+    double best = 1e300;
+    uint64_t state = 88172645463325252u;
+    size_t n = s.cells, work_len = tervuola_work_size(s.rows, s.cols);
+    for (uint32_t c = 0; c < s.cells; c++) starts[c] = c + 1;
+    for (uint32_t c = s.cells; shuffled && c > 1; c--) {
+        state ^= state << 13;
+        state ^= state >> 7;
+        state ^= state << 17;
+        uint32_t with = (uint32_t)(state % c), label = starts[with];
+        starts[with] = starts[c - 1];
+        starts[c - 1] = label;
+    }
+    for (uint32_t c = 0; c < s.cells; c++)
+        if (c % out_of || !code[c]) starts[c] = 0;
+    for (int run = 0; run < runs; run++) {
+        double a = now();
+        for (int k = 0; k < times; k++)
+            accepted(tervuola_watersheds(s.rows, s.cols, code, n, starts, n, sheds, n, work, work_len));
+        least(&best, now() - a);
+    }
+    for (uint32_t c = 0; c < s.cells; c++)
+        if (starts[c]) same("watersheds", "a start's own", &sheds[c], &starts[c], sizeof *sheds);
+    return best;
 }
 
 /* forty culverts spread over the sheet, each at the first data cell from its part's beginning on, round the sheet, and at the elevation there; gives
@@ -276,6 +307,10 @@ int main(int argc, char **argv)
     line("closed", "one call", ours[B_ALL], closed, (double)n * times);
     tervuola_crews none = {0};
     line("run", "labels", ours[B_LAB], least_run(s, code, 0, &none, work, runs, times), (double)n * times);
+    uint32_t few = s.cells / 1000 + 1; /* and not all of them in one column */
+    line("starts", "labels", ours[B_LAB], least_watersheds(s, code, few, 0, acc2, lab2, work, runs, times), (double)n * times);
+    line("all starts", "labels", ours[B_LAB], least_watersheds(s, code, 1, 0, acc2, lab2, work, runs, times), (double)n * times);
+    line("shuffled", "labels", ours[B_LAB], least_watersheds(s, code, 1, 1, acc2, lab2, work, runs, times), (double)n * times);
     turn_line(runs);
     return 0;
 }

@@ -56,7 +56,7 @@
 #include <stdint.h>
 
 #define TERVUOLA_VERSION_MAJOR 0
-#define TERVUOLA_VERSION_MINOR 11
+#define TERVUOLA_VERSION_MINOR 12
 #define TERVUOLA_VERSION_PATCH 0
 
 /* The void mark, and the eight direction codes. */
@@ -124,8 +124,10 @@ enum tervuola_number {
     TERVUOLA_BAD_CELL_SHAPE = 20, /* a cell's width or height is not from 1 to 1,000 */
     TERVUOLA_BAD_CREW = 21,       /* the crew is a number above 31 */
     TERVUOLA_NOT_COLLECTED = 22,  /* the crew has a trace, finished or not, that it has not yet collected */
-    TERVUOLA_NO_ROUTE = 23        /* the cell handed in, or the one that an unfinished trace stands on, lies outside the sheet or has
+    TERVUOLA_NO_ROUTE = 23,       /* the cell handed in, or the one that an unfinished trace stands on, lies outside the sheet or has
                                      code 0; place of a run: the lowest crew with such a trace */
+    TERVUOLA_REPEATED_LABEL = 24  /* a start label above 0 is on more than one cell; place: the second cell that has the lowest such
+                                     label */
 };
 
 typedef struct {
@@ -218,6 +220,7 @@ static inline const char *tervuola_text(uint32_t number)
     case TERVUOLA_BAD_CREW: return "the crew is not from 0 to 31";
     case TERVUOLA_NOT_COLLECTED: return "the crew's trace is not yet collected";
     case TERVUOLA_NO_ROUTE: return "a cell that is to be traced lies outside the sheet or has no direction code";
+    case TERVUOLA_REPEATED_LABEL: return "a start label is used on more than one cell";
     default: return "unknown number";
     }
 }
@@ -325,7 +328,9 @@ tervuola_located tervuola_culverts(uint32_t rows, uint32_t cols, uint32_t sides,
 /*
  * Watersheds from starts: the label of the first start on the cell's route, itself included, or 0.
  * codes, starts (0 for none): rows * cols. watersheds: rows * cols, the result. work: at least 4 * rows * cols.
- * Numbers: 5 6 7 8 9 11 12 13. Promise: WatershedsPromise.
+ * A label above 0 may be on one cell only: nobody could tell apart the watersheds of two gauges with one label. Of the labels on more
+ * than one cell the lowest decides, and 24 has as its place the second cell, by rising cell number, with that label.
+ * Numbers: 5 6 7 8 9 11 12 13 24. Promise: WatershedsPromise. Linear in the number of cells.
  */
 tervuola_answer tervuola_watersheds(uint32_t rows, uint32_t cols,
                                     const uint8_t *codes, size_t codes_len,
@@ -335,7 +340,8 @@ tervuola_answer tervuola_watersheds(uint32_t rows, uint32_t cols,
 
 /*
  * Table 5: starts where the count, and the rise of the count to the cell flowed into, are both above the threshold;
- * numbered 1, 2, 3 .. by rising cell number, 0 elsewhere. Reports the number of starts.
+ * numbered 1, 2, 3 .. by rising cell number, 0 elsewhere, so that no label is on two cells: these starts always pass 24 of
+ * tervuola_watersheds. Reports the number of starts.
  * codes, counts (any): rows * cols. starts: rows * cols, the result. work: at least 4 * rows * cols.
  * Numbers: 5 6 7 8 9 11 12. Promise: StartsPromise.
  */

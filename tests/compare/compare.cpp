@@ -1,10 +1,12 @@
-// Every call of libtervuola.a against the second program as it is after request 10, on its sheets, on sheets of ponds, on sheets cut from
-// larger ones, on sheets with gaps, under all closed sides, with cells of many shapes, on drops that tie by them, on random codes, on lists
-// of culverts, good and bad ones, on walks, routes and lists of any numbers, on lists of hand-ins, runs and collections from any state of
-// the crews, on damaged texts, and on wrong lengths. What is written is read again, and what is read is written again. Accepted culverts
-// are opened in other orders too, and an empty list of them is held against the one call.
+// Every call of libtervuola.a against the second program as it is after request 11, on its sheets, on sheets of ponds, on sheets cut
+// from larger ones, on sheets with gaps, under all closed sides, with cells of many shapes, on drops that tie by them, on random codes,
+// on starts whose labels are different and repeated, on lists of culverts, good and bad ones, on walks, routes and lists of any numbers,
+// on lists of hand-ins, runs and collections from any state of the crews, on damaged texts, and on wrong lengths. What is written is
+// read again, and what is read is written again. Accepted culverts are opened in other orders too, and an empty list of them is held
+// against the one call. Table 5's own starts go on to the watersheds.
 //   compare ROUNDS [SEED]      sheets up to 5 by 5, each size under each number of closed sides, each way to lay voids on 3 by 3 and
-//                              within the border of 5 by 5, and short lists of culverts; then ROUNDS of sheets up to 40 by 40
+//                              within the border of 5 by 5, short lists of culverts, each way to lay a few labels on up to 5 cells, and
+//                              tens of thousands of starts; then ROUNDS of sheets up to 40 by 40
 //   compare big KIND SIDE      one large sheet, by the second program's fast layer; the kind "lakes" is one of gaps
 // A result buffer is lent with guard elements on both sides, and holds a pattern before the call; a no must leave it, and the work buffer
 // up to question 9, which 17 and 20 come before. The counts call must leave the first 2 * rows * cols places of the work buffer
@@ -15,9 +17,11 @@
 #include <array>
 #include <cstring>
 using namespace oracle;
-static const int REQUEST = 10;
+static const int REQUEST = 11;
 // before request 9, when every void was outside
 static const int BEFORE_GAPS = 8;
+// before request 11, when a label could be on more than one cell
+static const int BEFORE_LABELS = 10;
 
 static u64 checks = 0;
 static const char *part = "round";
@@ -345,26 +349,239 @@ static void code_rounds(const Desc &d, const V<u8> &codes, Lengths len, u64 roun
   sheet_round("counts", tervuola_counts, said_counts, d, codes, 2 * d.n(), len, round);
   sheet_round("labels", tervuola_labels, said_labels, d, codes, 0, len, round);
 }
+
+// ---- starts
+
+// labels where a byte more begins or a signed number ends, and the largest
+static const u32 EDGE_LABELS[] = {1, 255, 256, 65535, 65536, 16777215, 16777216, 2147483647, 2147483648u, 4294967295u};
+static const u64 EDGES = sizeof EDGE_LABELS / sizeof *EDGE_LABELS;
+static u32 without_byte(u32 label, int k) { return label & ~(255u << 8 * k); }
+// Labels above 0, all different: from 1 on, down from the largest, at the edges and beside them, any, and those that differ from others in
+// one byte alone, the lowest, the second, the third or the highest.
+enum LabelForm { FROM_ONE, FROM_LARGEST, AT_EDGES, ANY_LABEL, BY_ONE_BYTE, LABEL_FORMS = BY_ONE_BYTE + 4 };
+static V<u32> some_labels(gen::Rng &g, u64 form, u64 count) {
+  V<u32> l;
+  std::set<u32> taken{0};
+  u32 others = 0;
+  for (u64 k = 0; l.size() < count; k++) {
+    u32 v = (u32)g.g();
+    if (form == FROM_ONE)
+      v = (u32)(k + 1);
+    if (form == FROM_LARGEST)
+      v = (u32)(4294967295u - k);
+    if (form == AT_EDGES && k < 100)
+      v = EDGE_LABELS[g.below(EDGES)] + (k < 30 ? 0 : (u32)g.in(-1, 1));
+    if (form >= BY_ONE_BYTE) {
+      int b = (int)(form - BY_ONE_BYTE);
+      if (k % 8 == 0)
+        others = g.chance(30) ? 0 : v;
+      v = without_byte(others, b) | (u32)g.below(256) << 8 * b;
+    }
+    if (taken.insert(v).second)
+      l.push_back(v);
+  }
+  return l;
+}
+// such labels on these cells, rising along the sheet, falling, or in no order
+enum LabelOrder { IN_ORDER, FROM_BEHIND, MIXED, LABEL_ORDERS };
+static V<u32> different_starts(gen::Rng &g, const V<u32> &cells, size_t n, u64 form, u64 order) {
+  V<u32> s(n), l = some_labels(g, form, cells.size());
+  std::sort(l.begin(), l.end());
+  if (order == FROM_BEHIND)
+    std::reverse(l.begin(), l.end());
+  if (order == MIXED)
+    std::shuffle(l.begin(), l.end(), g.g);
+  for (u64 k = 0; k < cells.size(); k++)
+    s[cells[k]] = l[k];
+  return s;
+}
+// labels of the two starts or more on these cells again in the place of others: any of them, one of them, or the largest
+static void repeat_some(gen::Rng &g, const V<u32> &cells, V<u32> &s) {
+  const u64 count = cells.size(), which = g.below(6);
+  auto lower = [&](u32 a, u32 b) { return s[a] < s[b]; };
+  const u32 one = which == 0 ? *std::max_element(cells.begin(), cells.end(), lower) : cells[g.below(count)];
+  for (u64 again = g.chance(50) ? 1 : g.chance(70) ? 2 + g.below(4) : 1 + g.below(count); again > 0; again--)
+    s[cells[g.below(count)]] = s[which < 2 ? one : cells[g.below(count)]];
+}
+// Starts on none, a few, some or all of the cells with a code, each with another label; then on half of the sheets some labels again. And
+// now and then a start where the code is 0, with a label of another or its own.
+static V<u32> some_starts(gen::Rng &g, const V<u8> &c, size_t n) {
+  V<u32> cells, bare;
+  for (u32 i = 0; i < n; i++)
+    (i < c.size() && c[i] ? cells : bare).push_back(i);
+  const u64 all = cells.size(), kind = g.below(10);
+  const u64 count = kind == 0 ? 0 : std::min<u64>(all, kind < 4 ? 1 + g.below(4) : kind < 7 ? 2 + g.below(all) : all);
+  std::shuffle(cells.begin(), cells.end(), g.g);
+  cells.resize(count);
+  std::sort(cells.begin(), cells.end());
+  V<u32> s = different_starts(g, cells, n, g.chance(10) ? (u64)AT_EDGES : g.below(LABEL_FORMS), g.below(LABEL_ORDERS));
+  if (count > 1 && g.chance(50))
+    repeat_some(g, cells, s);
+  if (!bare.empty() && g.chance(20))
+    s[bare[g.below(bare.size())]] = count && g.chance(60) ? s[cells[g.below(count)]] : (u32)(1 + g.below(9));
+  return s;
+}
+// the cells of each label above 0
+static std::map<u32, V<u64>> cells_of_labels(const V<u32> &s) {
+  std::map<u32, V<u64>> cells;
+  for (u64 i = 0; i < s.size(); i++)
+    if (s[i])
+      cells[s[i]].push_back(i);
+  return cells;
+}
+// What starts there were. Accepted: by their number; three or more whose labels rise along the sheet, fall, and do neither; with two
+// cells or more that have a code and no label; with two labels that differ in one byte alone. Refused with 24: one label repeated, on
+// two cells, and more labels; the lowest of these on three cells or more; starts on every cell with a code; more than 256 of them; with
+// a lower label that is not repeated; with a higher one that is, and whose second cell comes first; with some repeated below 2^31 and
+// some above; where it is the largest label of all; its cells beginning with the sheet's first, and the second of them the sheet's last;
+// with a label between these two that differs in one byte alone, so that an order that leaves this byte out would part them.
+enum Gauged {
+  NO_START, FEW_STARTS, EVERY_CODE, OVER_256, LABELS_RISE, LABELS_FALL, LABELS_MIXED, WITHOUT_LABEL, APART_BY,
+  ONE_REPEATED = APART_BY + 4, MORE_REPEATED, THREE_CELLS, EVERY_CODE_REFUSED, OVER_256_REFUSED, NOT_THE_LOWEST, ANOTHER_BEFORE,
+  OTHER_SIGN, THE_LARGEST, FROM_FIRST_CELL, TO_LAST_CELL, PARTED_BY, GAUGED = PARTED_BY + 4
+};
+static const char *const GAUGED_NAMES[GAUGED] = {
+    "none", "up to four", "on every cell with a code", "more than 256", "rising", "falling", "neither", "cells without a label",
+    "labels apart by the lowest byte", "the second", "the third", "the highest", "one label", "more", "on three cells or more",
+    "a start on every cell with a code", "more than 256", "a lower label is not", "a higher one comes first", "on both sides of 2^31",
+    "the largest label", "from the first cell on", "to the last cell", "parted by the lowest byte", "the second", "the third",
+    "the highest"};
+static std::array<u64, GAUGED> gauged;
+// the labels at the edges, accepted beside others, and as the lowest one that is repeated
+static u64 edges_accepted[EDGES], edges_repeated[EDGES];
+static void starts_accepted(const V<u8> &c, const V<u32> &s, const std::map<u32, V<u64>> &cells) {
+  const u64 count = cells.size(), codes = c.size() - (u64)std::count(c.begin(), c.end(), 0);
+  V<u32> l;
+  for (u32 v : s)
+    if (v)
+      l.push_back(v);
+  const bool rise = std::is_sorted(l.begin(), l.end()), fall = std::is_sorted(l.rbegin(), l.rend());
+  gauged[NO_START] += count == 0;
+  gauged[FEW_STARTS] += count > 0 && count <= 4;
+  gauged[EVERY_CODE] += count > 1 && count == codes;
+  gauged[OVER_256] += count > 256;
+  gauged[LABELS_RISE] += count > 2 && rise;
+  gauged[LABELS_FALL] += count > 2 && fall;
+  gauged[LABELS_MIXED] += !rise && !fall;
+  gauged[WITHOUT_LABEL] += count > 0 && codes > count + 1;
+  for (int k = 0; k < 4; k++) {
+    std::set<u32> rest;
+    for (u32 v : l)
+      rest.insert(without_byte(v, k));
+    gauged[APART_BY + k] += rest.size() < count;
+  }
+  for (u64 k = 0; k < EDGES; k++)
+    edges_accepted[k] += count > 1 && cells.count(EDGE_LABELS[k]);
+}
+static void starts_refused(const V<u8> &c, const V<u32> &s, const std::map<u32, V<u64>> &cells) {
+  u64 repeated = 0, starts = 0;
+  u32 lowest = 0;
+  for (auto &l : cells) {
+    starts += l.second.size();
+    repeated += l.second.size() > 1;
+    if (!lowest && l.second.size() > 1)
+      lowest = l.first;
+  }
+  const V<u64> &its = cells.at(lowest);
+  bool earlier = false, sign = false, parted[4] = {false};
+  for (auto &l : cells) {
+    if (l.first == lowest || l.second.size() < 2)
+      continue;
+    earlier = earlier || l.second[1] < its[1];
+    sign = sign || (lowest >> 31) != (l.first >> 31);
+  }
+  for (u64 i = its[0] + 1; i < its[1]; i++)
+    for (int k = 0; k < 4; k++)
+      parted[k] = parted[k] || (s[i] && s[i] != lowest && without_byte(s[i], k) == without_byte(lowest, k));
+  gauged[ONE_REPEATED] += repeated == 1 && its.size() == 2;
+  gauged[MORE_REPEATED] += repeated > 1;
+  gauged[THREE_CELLS] += its.size() > 2;
+  gauged[EVERY_CODE_REFUSED] += starts == c.size() - (u64)std::count(c.begin(), c.end(), 0);
+  gauged[OVER_256_REFUSED] += starts > 256;
+  gauged[NOT_THE_LOWEST] += cells.begin()->first < lowest;
+  gauged[ANOTHER_BEFORE] += earlier;
+  gauged[OTHER_SIGN] += sign;
+  gauged[THE_LARGEST] += cells.rbegin()->first == lowest;
+  gauged[FROM_FIRST_CELL] += its[0] == 0;
+  gauged[TO_LAST_CELL] += its[1] + 1 == s.size();
+  for (int k = 0; k < 4; k++)
+    gauged[PARTED_BY + k] += parted[k];
+  for (u64 k = 0; k < EDGES; k++)
+    edges_repeated[k] += lowest == EDGE_LABELS[k];
+}
+static bool every_kind_of_start(u64 least) {
+  bool all = true;
+  printf("compare: starts:");
+  for (int k = 0; k < GAUGED; k++) {
+    printf("%s  %s: %llu", k == ONE_REPEATED ? "; refused:" : "", GAUGED_NAMES[k], (unsigned long long)gauged[k]);
+    all = all && gauged[k] && gauged[k] >= least;
+  }
+  printf("\ncompare: labels, accepted and as the lowest that is repeated:");
+  for (u64 k = 0; k < EDGES; k++) {
+    printf("  %u: %llu, %llu", EDGE_LABELS[k], (unsigned long long)edges_accepted[k], (unsigned long long)edges_repeated[k]);
+    all = all && edges_accepted[k] >= least && edges_repeated[k] && edges_repeated[k] >= least / 4;
+  }
+  printf("\n");
+  return all;
+}
+// the answers that more than one question has to do with: a repeated label, or a start where the code is 0, beside what is asked before
+static void starts_answer(u32 number, const V<u8> &c, const V<u32> &s) {
+  const std::map<u32, V<u64>> cells = cells_of_labels(s);
+  if (number == 0)
+    starts_accepted(c, s, cells);
+  if (number == 24)
+    starts_refused(c, s, cells);
+  if (number == 0 || number == 24)
+    return;
+  bool bad = false;
+  for (u64 i = 0; i < c.size() && i < s.size(); i++)
+    bad = bad || (!c[i] && s[i]);
+  before["watersheds"][{number, 13}] += bad;
+  before["watersheds"][{number, 24}] += std::any_of(cells.begin(), cells.end(), [](auto &l) { return l.second.size() > 1; });
+}
+// The watersheds of starts against the second program; what is handed in must stay as it was.
+static u32 watersheds_answer(const char *name, const Desc &d, const V<u8> &codes, const V<u32> &starts, Lent<u32> &out, Lent<u32> &work,
+                             u64 round) {
+  Lent<u8> c(codes);
+  Lent<u32> s(starts);
+  V<u32> want = out.list();
+  Reply r = call_watersheds(d.rows, d.cols, codes, starts, want, work.n);
+  tervuola_answer a = tervuola_watersheds((u32)d.rows, (u32)d.cols, c.at(), c.n, s.at(), s.n, out.at(), out.n, work.at(), work.n);
+  same_answer(name, a.number, a.place, r, round);
+  same_list(name, "the watersheds", out, want, round);
+  same_list(name, "the codes handed in", c, codes, round);
+  same_list(name, "the starts handed in", s, starts, round);
+  same_work(name, a.number, work, round);
+  answers[name][a.number]++;
+  return a.number;
+}
 static void watersheds_round(const Desc &d, const V<u8> &c0, gen::Rng &g, Lengths len, u64 round) {
   V<u8> c = resized(c0, len.of(c0.size()));
-  V<u32> s(len.of(c0.size()));
-  for (size_t i = 0; i < s.size(); i++)
-    s[i] = (i < c.size() && c[i]) || g.chance(1) ? (g.chance(20) ? (u32)(g.chance(80) ? 1 + g.below(9) : g.g()) : 0) : 0;
+  V<u32> s = some_starts(g, c, len.of(c0.size()));
   Lent<u32> out(len.of(c0.size())), work(len.work(c0.size()));
-  V<u32> want = out.list();
-  Reply r = call_watersheds(d.rows, d.cols, c, s, want, work.n);
-  tervuola_answer a = tervuola_watersheds((u32)d.rows, (u32)d.cols, c.data(), c.size(), s.data(), s.size(),
-                                          out.at(), out.n, work.at(), work.n);
-  same_answer("watersheds", a.number, a.place, r, round);
-  same_list("watersheds", "the watersheds", out, want, round);
-  same_work("watersheds", a.number, work, round);
+  starts_answer(watersheds_answer("watersheds", d, c, s, out, work, round), c, s);
+}
+// "Table 5's own starts always pass this": the answer is what it was before the request, and accepted. The sheets with two of them or
+// more, and the most of one sheet.
+static u64 own_starts = 0, most_own_starts = 0;
+static void own_starts_round(const Desc &d, const V<u8> &c, const V<u32> &s, u64 count, Lengths len, u64 round) {
+  Lent<u32> out(d.n()), work(Lengths{len.g, false}.work(d.n()));
+  LEVEL = BEFORE_LABELS;
+  u32 number = watersheds_answer("watersheds of Table 5's own starts", d, c, s, out, work, round);
+  LEVEL = REQUEST;
+  if (number)
+    fail("watersheds of Table 5's own starts", "that they are accepted", round);
+  own_starts += count > 1;
+  most_own_starts = std::max(most_own_starts, count);
 }
 static void starts_round(const Desc &d, const V<u8> &c0, gen::Rng &g, Lengths len, u64 round) {
   V<u8> c = resized(c0, len.of(c0.size()));
   V<u32> n(len.of(c0.size()));
-  u32 t = g.chance(80) ? (u32)g.below(4) : (u32)g.g();
+  const u32 thresholds[] = {0, 1, 2147483647, 2147483648u, 4294967294u, 4294967295u};
+  const bool any = g.chance(20); // counts of any size
+  u32 t = any ? thresholds[g.below(6)] : g.chance(80) ? (u32)g.below(4) : (u32)g.g();
   for (auto &x : n)
-    x = g.chance(90) ? (u32)g.below(12) : (u32)g.g();
+    x = !any && g.chance(90) ? (u32)g.below(12) : (u32)g.g();
   Lent<u32> out(len.of(c0.size())), work(len.work(c0.size()));
   V<u32> want = out.list();
   Reply r = call_table5(d.rows, d.cols, c, n, t, want, work.n);
@@ -375,6 +592,127 @@ static void starts_round(const Desc &d, const V<u8> &c0, gen::Rng &g, Lengths le
     fail("starts", "the number of starts", round);
   same_list("starts", "the starts", out, want, round);
   same_work("starts", a.number, work, round);
+  answers["starts"][a.number]++;
+  if (a.number == 0 && d.n() <= 1000000)
+    own_starts_round(d, c, want, a.count, len, round);
+}
+// the labels at the edges along a row, in turn from each of them on, and behind them none, or any two of them again
+static void edge_starts() {
+  Desc d;
+  d.rows = 1;
+  d.cols = EDGES + 2;
+  const V<u8> c(d.n(), 2);
+  part = "turn of labels";
+  for (u64 turn = 0; turn < EDGES; turn++)
+    for (u64 k = 0; k <= EDGES; k++) {
+      V<u32> s(d.n());
+      for (u64 i = 0; i < EDGES; i++)
+        s[i] = EDGE_LABELS[(turn + i) % EDGES];
+      for (u64 i = 0; i < 2 && k < EDGES; i++)
+        s[EDGES + i] = EDGE_LABELS[(k + i * turn) % EDGES];
+      Lent<u32> out(d.n()), work(4 * d.n());
+      starts_answer(watersheds_answer("watersheds", d, c, s, out, work, turn), c, s);
+    }
+}
+// Each way to lay three labels, or none, on up to five cells: labels beside each other, on both sides of 2^31, with one lowest byte, and
+// with all but that the same. The codes are of routes that end, have a 0 at each place, a ring, and a bad code.
+static void small_starts() {
+  static const u64 sizes[][2] = {{1, 1}, {1, 2}, {2, 1}, {3, 1}, {2, 2}, {1, 4}, {1, 5}};
+  static const u32 labels[][4] = {
+      {0, 1, 2, 3}, {0, 1, 2147483648u, 4294967295u}, {0, 7, 263, 16777223}, {0, 16842753, 16842754, 16842880}};
+  ENGINE = LITERAL;
+  part = "few starts";
+  u64 i = 0;
+  for (auto &size : sizes)
+    for (auto &from : labels) {
+      Desc d;
+      d.rows = size[0];
+      d.cols = size[1];
+      const u64 n = d.n();
+      Lent<u32> out(n), work(4 * n);
+      for (u64 form = 0; form < n + 3; form++) {
+        V<u8> c(n, d.cols > 1 ? 2 : 8);
+        if (form < n)
+          c[form] = 0;
+        if (form == n && n > 1)
+          c[1] = d.cols > 1 ? 32 : 128;
+        if (form == n + 1)
+          c[n - 1] = 3;
+        for (u64 way = 0; way < 1u << 2 * n; way++, i++) {
+          V<u32> s(n);
+          for (u64 k = 0; k < n; k++)
+            s[k] = from[way >> 2 * k & 3];
+          out.renew();
+          work.renew();
+          watersheds_answer("watersheds", d, c, s, out, work, i);
+        }
+      }
+    }
+  edge_starts();
+  part = "round";
+}
+// many starts, of which it is known whether a label is repeated
+static void starts_said(const Desc &d, const V<u8> &codes, const V<u32> &s, u32 number, u64 round) {
+  Lent<u32> out(d.n()), work(4 * d.n());
+  if (watersheds_answer("watersheds", d, codes, s, out, work, round) != number)
+    fail("watersheds", number ? "that many starts with a repeated label are refused" : "that many starts are accepted", round);
+}
+// As many starts as 8, 14 and 16 bits count, one less and one more, with labels of several forms, fewer where there are more starts:
+// accepted; then the last two with one label, or where they are counted from 1 the first two with the largest there is; then the last and
+// the first with one and two between them with another; and then any of them repeated.
+static void many_starts(u64 seed) {
+  static const u64 sides[] = {20, 140, 275}, counts[] = {256, 16384, 65536}, all_counts[] = {LABEL_FORMS, ANY_LABEL, 0};
+  ENGINE = FAST;
+  part = "number of starts";
+  for (u64 i = 0; i < 9 * LABEL_FORMS; i++) {
+    const u64 size = i % 3, more = i / 3 % 3, form = i / 9, count = counts[size] + more - 1;
+    if ((form >= all_counts[size] && more != form % 3) || (size == 2 && form >= ANY_LABEL))
+      continue;
+    gen::Rng g(seed * 1000003 + i);
+    Desc d;
+    d.rows = d.cols = sides[size];
+    const V<u8> codes = gen::codes(seed + i, d.rows, d.cols, 4);
+    V<u32> cells;
+    for (u64 c = 0; c < d.n(); c++)
+      if (codes[c])
+        cells.push_back((u32)c);
+    if (cells.size() < count)
+      fail("watersheds", "that there are as many cells", i);
+    cells.erase(cells.begin(), cells.end() - (long)count);
+    const V<u32> s = different_starts(g, cells, d.n(), form, (form + more) % LABEL_ORDERS);
+    starts_said(d, codes, s, 0, i);
+    V<u32> two(s), ends(s), any(s);
+    if (form == FROM_ONE)
+      two[cells[0]] = two[cells[1]] = 4294967295u;
+    else
+      two[cells[count - 1]] = two[cells[count - 2]];
+    starts_said(d, codes, two, 24, i);
+    ends[cells[0]] = ends[cells[count - 1]];
+    ends[cells[count / 2]] = ends[cells[count / 3]];
+    starts_said(d, codes, ends, 24, i);
+    repeat_some(g, cells, any);
+    any[cells[count / 2]] = any[cells[count / 3]];
+    starts_said(d, codes, any, 24, i);
+  }
+  part = "round";
+}
+// On a large sheet: about a thousand starts, or one on every cell with a code, with labels in no order: accepted, then two labels
+// repeated.
+static void large_starts(const Desc &d, const V<u8> &codes, bool all) {
+  V<u32> cells;
+  for (u64 c = 0; c < d.n(); c++)
+    if (codes[c])
+      cells.push_back((u32)c);
+  if (cells.size() < 1000)
+    fail("watersheds", "that there are cells for many starts", cells.size());
+  V<u32> s(d.n());
+  const u64 every = all ? 1 : cells.size() / 1000 + 1, last = (cells.size() - 1) / every;
+  for (u64 k = 0; k <= last; k++)
+    s[cells[k * every]] = (u32)(k + 1) * 2654435761u;
+  starts_said(d, codes, s, 0, 0);
+  s[cells[last / 3 * every]] = s[cells[last / 2 * every]];
+  s[cells[last * every]] = s[cells[0]];
+  starts_said(d, codes, s, 24, 0);
 }
 static void pour_points_round(const Desc &d, const V<i16> &e0, gen::Rng &g, Lengths len, u64 round) {
   V<i16> e = resized(e0, len.of(e0.size()));
@@ -1959,6 +2297,8 @@ static int rounds(u64 count, u64 seed) {
   small_sheets(seed);
   small_gaps(seed);
   small_culverts();
+  small_starts();
+  many_starts(seed);
   tied_drops();
   write_sizes(seed);
   small_lists();
@@ -1966,6 +2306,7 @@ static int rounds(u64 count, u64 seed) {
   small_crews(seed);
   voids_met.clear(); // the rounds by themselves
   listed.fill(0);
+  gauged.fill(0);
   for (u64 i = 0; i < count; i++) {
     gen::Rng g(seed * 1000003 + i);
     u64 side = g.chance(70) ? 9 : g.chance(70) ? 20 : 40;
@@ -1987,7 +2328,8 @@ static int rounds(u64 count, u64 seed) {
     outlets_rounds(d, s.e, g, len, i);
     directions_round(d, filled, len, i);
     code_rounds(d, codes, len, i);
-    watersheds_round(d, codes, g, len, i);
+    for (int k = 0; k < 3; k++)
+      watersheds_round(d, codes, g, len, i);
     starts_round(d, codes, g, len, i);
     lists_rounds(s.rows, s.cols, d, codes, g, i);
     pour_points_round(d, s.e, g, len, i);
@@ -2033,9 +2375,14 @@ static int rounds(u64 count, u64 seed) {
          (unsigned long long)statuses[0], (unsigned long long)statuses[1], (unsigned long long)statuses[2], (unsigned long long)long_words,
          (unsigned long long)lost_crews.size(), (unsigned long long)lost_without_turns, (unsigned long long)no_turns, (unsigned long long)most_turns,
          (unsigned long long)total_reached, (unsigned long long)total_kept);
+  printf("compare: Table 5's own starts: %llu sheets with two or more, up to %llu of them\n", (unsigned long long)own_starts,
+         (unsigned long long)most_own_starts);
   bool all = every_answer("counts", {0, 5, 6, 7, 8, 9, 11, 12});
   all = every_answer("labels", {0, 5, 6, 7, 8, 9, 11, 12}) && all;
   const u64 least = count / 20; // of each kind of voids, for each call
+  all = every_answer("starts", {0, 5, 6, 7, 8, 9, 11, 12}) && own_starts >= least && all;
+  all = every_answer("watersheds", {0, 5, 6, 7, 8, 9, 11, 12, 13, 24}) && every_kind_of_start(least / 10) && all;
+  all = every_order("watersheds", {{5, 24}, {6, 24}, {7, 24}, {8, 24}, {9, 24}, {11, 24}, {12, 24}, {13, 24}, {11, 13}, {12, 13}}) && all;
   all = every_outlets_answer("fill", {0, 5, 6, 17, 7, 8, 9, 18}, {}, least) && all;
   const V<std::pair<u32, u32>> shape{{5, 20}, {6, 20}, {17, 20}, {20, 7}, {20, 8}, {20, 9}, {20, 18}};
   V<std::pair<u32, u32>> culverts(shape);
@@ -2079,7 +2426,7 @@ static int big(const char *kind, u64 side) {
   outlets_round("fill", tervuola_fill, call_fill, d, s.e, len, 0);
   directions_round(d, filled, len, 0);
   code_rounds(d, codes, len, 0);
-  watersheds_round(d, codes, g, len, 0);
+  large_starts(d, codes, gaps);
   starts_round(d, codes, g, len, 0);
   long_lists(d, codes);
   large_crews(d, codes, g);

@@ -63,7 +63,7 @@ int main(void)
     EXPECT(sizeof tervuola_culverts(3, 3, 0, 1, 1, elevations, 9, NULL, 0, NULL, 0, filled, 9, codes, 9, numbers, 9, numbers, 9, work, 36).place
            == sizeof(size_t));
     EXPECT(strcmp(tervuola_text(0), "accepted") == 0);
-    for (k = 1; k <= 23; k++) {
+    for (k = 1; k <= 24; k++) {
         EXPECT(strcmp(tervuola_text(k), "unknown number") != 0);
         EXPECT(strcmp(tervuola_text(k), tervuola_text(k - 1)) != 0);
     }
@@ -74,7 +74,8 @@ int main(void)
     EXPECT(TERVUOLA_CLOSED_WEST == 1 && TERVUOLA_CLOSED_EAST == 2 && TERVUOLA_CLOSED_NORTH == 4 && TERVUOLA_CLOSED_SOUTH == 8);
     EXPECT(TERVUOLA_BAD_CREW == 21 && TERVUOLA_NOT_COLLECTED == 22 && TERVUOLA_NO_ROUTE == 23 && TERVUOLA_CREWS == 32);
     EXPECT(TERVUOLA_NO_TRACE == 0 && TERVUOLA_WAITING == 1 && TERVUOLA_FINISHED == 2);
-    EXPECT(strcmp(tervuola_text(24), "unknown number") == 0);
+    EXPECT(TERVUOLA_REPEATED_LABEL == 24 && strstr(tervuola_text(24), "start label"));
+    EXPECT(strcmp(tervuola_text(25), "unknown number") == 0);
     /* a place in a list and a part of one are of the machine's size; the part's pointer, of an empty list too */
     EXPECT(sizeof(tervuola_located) == 2 * sizeof(size_t) && sizeof(tervuola_part) == 2 * sizeof(size_t));
     EXPECT(sizeof located.place == sizeof(size_t) && offsetof(tervuola_located, place) == sizeof(size_t));

@@ -25,6 +25,17 @@ static const int table7[12][5] = {
     { 1, 3, 797, 4, 10 }, { 1, 4, 785, 4, 9 }, { 2, 4, 733, 5, 6 }, { 2, 5, 762, 8, 5 }, { 3, 4, 738, 7, 8 }, { 4, 5, 733, 8, 7 },
 };
 
+/* The starts of 2f with other labels, by rising cell number, and the answer to them. */
+static const uint32_t start_cells[5] = { 40, 65, 79, 90, 102 };
+static const struct {
+    uint32_t labels[5], number, place;
+} gauges[] = {
+    { { 1, 2, 3, 4, 2 }, TERVUOLA_REPEATED_LABEL, 102 }, { { 2, 1, 3, 1, 2 }, TERVUOLA_REPEATED_LABEL, 90 },
+    { { 1, 2, 3, 2, 1 }, TERVUOLA_REPEATED_LABEL, 102 }, { { 7, 7, 3, 3, 9 }, TERVUOLA_REPEATED_LABEL, 90 },
+    { { 1, 9, 9, 9, 2 }, TERVUOLA_REPEATED_LABEL, 79 }, { { 4, 4, 4, 4, 4 }, TERVUOLA_REPEATED_LABEL, 65 },
+    { { 5, 4, 3, 2, 1 }, TERVUOLA_OK, 0 }, { { 256, 1, 65536, 4294967295u, 16777216 }, TERVUOLA_OK, 0 },
+};
+
 int main(void)
 {
     static int16_t filled[144];
@@ -47,6 +58,19 @@ int main(void)
     a = tervuola_watersheds(12, 12, directions, 144, numbers, 144, sheds, 144, work, 576);
     ACCEPTED(a);
     SAME("the watersheds (2g)", sheds, watersheds);
+    /* two gauges with one label are refused, and 2g stays; other labels name the same watersheds */
+    for (size_t i = 0; i < sizeof gauges / sizeof *gauges; i++) {
+        static uint32_t labelled[144], result[144], wanted[144];
+        memcpy(result, watersheds, sizeof result);
+        for (int k = 0; k < 5; k++) labelled[start_cells[k]] = gauges[i].labels[k];
+        for (int c = 0; c < 144; c++) wanted[c] = gauges[i].number || !watersheds[c] ? watersheds[c] : gauges[i].labels[watersheds[c] - 1];
+        a = tervuola_watersheds(12, 12, directions, 144, labelled, 144, result, 144, work, 576);
+        if (a.number != gauges[i].number || a.place != gauges[i].place) {
+            printf("paper: number %u and place %u for labels %d\n", (unsigned)a.number, (unsigned)a.place, (int)i);
+            return 1;
+        }
+        SAME("a watershed with another label, or beside a refusal,", result, wanted);
+    }
     /* with columns of length 0 the place is the number of pairs */
     k = tervuola_pour_points(12, 12, depressionless, 144, sheds, 144, NULL, 0, NULL, 0, NULL, 0, NULL, 0);
     if (k.number != TERVUOLA_SHORT_COLUMNS || k.place != 12) {

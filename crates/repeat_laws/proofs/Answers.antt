@@ -12,81 +12,73 @@ use borrow.Author.Tests.{eq-eqb, ne-eqb}
 use Rattle.grid.specs.declared.Grid.{Grid}
 use Rattle.grid.specs.Below.{anyBelow, firstBelow}
 use Rattle.grid.specs.Sheet.{size}
-use Rattle.grid.specs.Routes.{isRepeated, secondCell, firstRepeat}
-use Rattle.grid_laws.proofs.Tests.{not-true-false, and-true, and-false-left, and-false-right}
+use Rattle.grid.specs.Routes.{secondCell, firstRepeat}
+use Rattle.grid_laws.proofs.Tests.{and-true, and-false-left, and-false-right}
 use Rattle.grid_laws.proofs.Below.{any-of, none-of, first-is, first-none}
-use Rattle.repeat_laws.specs.Listed.{numberIn, Listed, LowestTwice, NoneFrom}
+use Rattle.repeat_laws.specs.Listed.{numberIn, Listed, Again, LowestTwice, NoneFrom}
 use Rattle.repeat_laws.proofs.Repeats.{Twice, twice-repeated, repeated-twice, no-repeat, lowest-repeat}
 
-module _ (g : Grid) (m base : ℕ) (starts w : List ℕ) (L : Listed (size g) m base starts w) where
-  -- two cells with one label stand at two places with one number
-  abbrev Pair : ℕ → Type 0
-  Pair c = (i : ℕ) × (k : ℕ) × (i < k) × (k < m) × (numberIn base w i ≡ numberIn base w k) × (numberIn base w i ≡ getD starts c 0)
+module _ (g : Grid) (m : ℕ) (starts w : List ℕ) (L : Listed (size g) m starts w) where
+  -- a repeated label stands in the list a second time
+  abbrev Stands : ℕ → Type 0
+  Stands c = (k : ℕ) × (k < m) × Again (numberIn 0 w) k × (numberIn 0 w k ≡ getD starts c 0)
 
-  pair : (c d : ℕ) → Twice g starts c d → Pair c
-  pair c d t = go (decLt (L .place c) (L .place d)) (decLt (L .place d) (L .place c))
+  stands : (c d : ℕ) → Twice g starts c d → Stands c
+  stands c d t = go (decLt (L .place c) (L .place d)) (decLt (L .place d) (L .place c))
     where
       above : 0 < getD starts d 0
       above = let a = t .above in let e = t .same in omega arith
 
-      p : numberIn base w (L .place c) ≡ getD starts c 0
+      p : numberIn 0 w (L .place c) ≡ getD starts c 0
       p = L .holds c (t .on) (t .above)
 
-      q : numberIn base w (L .place d) ≡ getD starts d 0
+      q : numberIn 0 w (L .place d) ≡ getD starts d 0
       q = L .holds d (t .other-on) above
 
-      go : Dec (L .place c < L .place d) → Dec (L .place d < L .place c) → Pair c
-      go (yes l) _ = (L .place c, L .place d, l, L .on d (t .other-on) above, p ∙ (t .same ∙ sym q), p)
-      go (no l) (yes k) = (L .place d, L .place c, k, L .on c (t .on) (t .above), q ∙ (sym (t .same) ∙ sym p), q ∙ sym (t .same))
+      go : Dec (L .place c < L .place d) → Dec (L .place d < L .place c) → Stands c
+      go (yes l) _ = (L .place d, L .on d (t .other-on) above, (L .place c, l, p ∙ (t .same ∙ sym q)), q ∙ sym (t .same))
+      go (no l) (yes k) = (L .place c, L .on c (t .on) (t .above), (L .place d, k, q ∙ (sym (t .same) ∙ sym p)), p)
       go (no l) (no k) = absurd (t .apart (L .apart c d (t .on) (t .other-on) (t .above) above (omega arith)))
 
   -- the cell whose label stands at a place
   abbrev At : ℕ → Type 0
   At j = (c : ℕ) × (c < size g) × (0 < getD starts c 0) × (L .place c ≡ j)
 
-  none-repeated : ((i k : ℕ) → i < k → k < m → numberIn base w i ≡ numberIn base w k → ⊥) → firstRepeat g starts ≡ size g
+  label : (j : ℕ) (a : At j) → numberIn 0 w j ≡ getD starts (a .0) 0
+  label j a = ap (numberIn 0 w) (sym (a .3)) ∙ L .holds (a .0) (a .1) (a .2)
+
+  none-repeated : ((k : ℕ) → k < m → Again (numberIn 0 w) k → ⊥) → firstRepeat g starts ≡ size g
   none-repeated A =
-      no-repeat g starts (λ c h. not-true-false (isRepeated g starts c)
-      (λ e. let r = repeated-twice g starts c h e in let n = pair c (r .0) (r .1) in A (n .0) (n .1) (n .2) (n .3) (n .4)))
-
-  second-of : (v i k : ℕ) → i < k → k < m → numberIn base w i ≡ v → numberIn base w k ≡ v →
-      ((i k : ℕ) → i < k → k < m → numberIn base w i ≡ numberIn base w k → v ≤ numberIn base w i) →
-      firstRepeat g starts ≡ secondCell g starts v
-  second-of v i k l h p q low = go (L .onto i (omega arith)) (L .onto k h)
-    where
-      label : (j : ℕ) (a : At j) → numberIn base w j ≡ getD starts (a .0) 0
-      label j a = ap (numberIn base w) (sym (a .3)) ∙ L .holds (a .0) (a .1) (a .2)
-
-      lower : (d : ℕ) → Pair d → v ≤ getD starts d 0
-      lower d n = let z = low (n .0) (n .1) (n .2) (n .3) (n .4) in let e = n .5 in omega arith
-
-      go : At i → At k → firstRepeat g starts ≡ secondCell g starts v
-      go a b =
-          lowest-repeat g starts v (a .0) (a .1)
-          (twice-repeated g starts (a .0) (b .0)
-          (record {
-            on = a .1;
-            other-on = b .1;
-            apart = λ e. (let x = sym (a .3) ∙ (ap (L .place) e ∙ b .3) in omega arith);
-            above = a .2;
-            same = sym (label i a) ∙ (p ∙ (sym q ∙ label k b));
-          }))
-          (sym (label i a) ∙ p) (λ d y t. let r = repeated-twice g starts d y t in lower d (pair d (r .0) (r .1)))
-
-  -- by what the walk found
-  pub answer-none : (v : ℕ) → LowestTwice (numberIn base w) m v → v ≡ 0 → firstRepeat g starts ≡ size g
-  answer-none v (inl p) e = none-repeated (p .1)
-  answer-none v (inr p) e = let l = p .0 in let z : ⊥ = omega arith in absurd z
+      no-repeat g starts (λ c h e. let r = repeated-twice g starts c h e in let n = stands c (r .0) (r .1) in A (n .0) (n .1) (n .2))
 
   -- fewer than two labels
   pub answer-few : m < 2 → firstRepeat g starts ≡ size g
-  answer-few l = none-repeated (λ i k h o _. omega arith)
+  answer-few l = none-repeated (λ k h a. let y = a .1 in omega arith)
 
-  pub answer-second : (v : ℕ) → LowestTwice (numberIn base w) m v → (v ≡ 0 → ⊥) → firstRepeat g starts ≡ secondCell g starts v
+  -- by what the walk found
+  pub answer-none : (v : ℕ) → LowestTwice (numberIn 0 w) m v → v ≡ 0 → firstRepeat g starts ≡ size g
+  answer-none v (inl p) e = none-repeated (p .1)
+  answer-none v (inr p) e = let l = p .0 in let z : ⊥ = omega arith in absurd z
+
+  pub answer-second : (v : ℕ) → LowestTwice (numberIn 0 w) m v → (v ≡ 0 → ⊥) → firstRepeat g starts ≡ secondCell g starts v
   answer-second v (inl p) n = absurd (n (p .0))
-  answer-second v (inr p) n =
-      let t = p .1 in
-      second-of v (t .0) (t .1) (t .2) (t .3) (t .4) (t .5) (p .2)
+  answer-second v (inr (positive, (k, h, (i, l, e), q), low)) n = go (L .onto i (omega arith)) (L .onto k h)
+    where
+      lower : (d : ℕ) → Stands d → v ≤ getD starts d 0
+      lower d t = let z = low (t .0) (t .1) (t .2) in let y = t .3 in omega arith
+
+      go : At i → At k → firstRepeat g starts ≡ secondCell g starts v
+      go a b =
+          lowest-repeat g starts v (b .0) (b .1)
+          (twice-repeated g starts (b .0) (a .0)
+          (record {
+            on = b .1;
+            other-on = a .1;
+            apart = λ o. (let x = sym (b .3) ∙ (ap (L .place) o ∙ a .3) in omega arith);
+            above = b .2;
+            same = sym (label k b) ∙ (sym e ∙ label i a);
+          }))
+          (sym (label k b) ∙ q) (λ d y t. let r = repeated-twice g starts d y t in lower d (stands d (r .0) (r .1)))
 
 -- ---- the second cell with a label
 

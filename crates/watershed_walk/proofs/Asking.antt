@@ -78,7 +78,7 @@ module _ (g : Grid) (codes starts : List ℕ) (r : Answer) (asked : r ≡ askCod
   pub answer-after : r .number ≡ 0 → (a : Answer) → a ≡ askStarts g codes starts accepted → a ≡ routesCheck g codes starts
   answer-after z a e = e ∙ answered-yes (codes-gate g codes) asked z (askStarts g codes starts accepted)
 
--- ---- what an accepted answer says
+-- ---- what an accepted answer says, as far as the walk needs it
 pub record AllYes (g : Grid) (codes starts : List ℕ) : Type 0 where
   pub no-bad : firstBadCode g codes ≡ size g
   pub no-endless : firstEndless g codes ≡ size g
