@@ -5,27 +5,27 @@ ghost use Rattle.grid.specs.Frames.{hex_value, from_twos};
 ghost use Rattle.cursor.specs.Reading.{ByteRead, DigitRead, NumberRead};
 
 // a place in a text
-#[derive(Drop)]
+#[derive(Clone, Copy)]
 pub struct Cursor {
     pub at: usize,
 }
 
 // a byte, and the cursor past it
-#[derive(Drop)]
+#[derive(Clone, Copy)]
 pub struct Byte {
     pub value: u8,
     pub next: Cursor,
 }
 
 // a digit's value, and the cursor past it
-#[derive(Drop)]
+#[derive(Clone, Copy)]
 pub struct Digit {
     pub value: u32,
     pub next: Cursor,
 }
 
 // the number that 4 digits make, and the cursor past them
-#[derive(Drop)]
+#[derive(Clone, Copy)]
 pub struct Number {
     pub value: u32,
     pub next: Cursor,
