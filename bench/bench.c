@@ -105,10 +105,9 @@ static void take_turns(struct sheet s, const uint8_t *code, unsigned turns, terv
         if (w[k] != TERVUOLA_WAITING) continue;
         int p = position(code[cell]);
         uint32_t row = cell / s.cols + (uint32_t)down[p], col = cell % s.cols + (uint32_t)right[p], to = row * s.cols + col;
-        if (row < s.rows && col < s.cols && code[to]) {
-            w[32 + k] = to;
-            w[65 + k] += w[65 + k] < UINT64_MAX;
-        } else w[k] = TERVUOLA_FINISHED;
+        if (row < s.rows && col < s.cols && code[to]) w[32 + k] = to;
+        else w[k] = TERVUOLA_FINISHED;
+        w[65] += w[65] < UINT64_MAX;
     }
 }
 

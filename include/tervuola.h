@@ -41,12 +41,11 @@
  *
  * Buffers. Each is a pointer and then its number of elements (not bytes). A pointer must be valid for that many elements
  * (a null pointer only with 0 elements), aligned for its type, and no result or work buffer may overlap another buffer of
- * the same call: that is the caller's part, and the only one. The crews' state and a crew's count, each a pointer alone and never
- * null, are such result buffers. Any length and any content is allowed: what does not fit is refused.
+ * the same call: that is the caller's part, and the only one. The crews' state, a pointer alone and never null, is such a result
+ * buffer. Any length and any content is allowed: what does not fit is refused.
  *
- * A refusal (number above 0) leaves every result buffer, the crews' state and their counts as they were; a number up to 9, and 17 and
- * 20, leaves the work buffer as it was too. Otherwise the work buffer's contents are free afterwards; tervuola_counts says more of its
- * own.
+ * A refusal (number above 0) leaves every result buffer, and the crews' state, as it was; a number up to 9, and 17 and 20, leaves
+ * the work buffer as it was too. Otherwise the work buffer's contents are free afterwards; tervuola_counts says more of its own.
  *
  * The calls allocate nothing, keep no state of their own, are reentrant and thread-safe, and use at most 512 KiB of stack.
  */
@@ -56,12 +55,8 @@
 #include <stddef.h>
 #include <stdint.h>
 
-/*
- * Header and archive must have one version: while the first number is 0, the second grows with every change that a caller sees, and
- * what was compiled with another header must be compiled again.
- */
 #define TERVUOLA_VERSION_MAJOR 0
-#define TERVUOLA_VERSION_MINOR 13
+#define TERVUOLA_VERSION_MINOR 12
 #define TERVUOLA_VERSION_PATCH 0
 
 /* The void mark, and the eight direction codes. */
@@ -165,24 +160,14 @@ typedef struct {
 } tervuola_part;
 
 /*
- * The traces of 32 crews, numbered 0 to 31. The state is the caller's: {0} begins, with no trace and crew 0 next; a copy goes on by
- * itself, and calls at the same time must not share one. Every content is a state. Words 0 to 31 have for each crew 1 for a trace on
- * its way, 2 for a finished one, and any other number for none (writing 0 there gives up the trace); 32 to 63 the cell that it stands
- * on, in their low 32 bits; 64 the crew whose turn is next, by its remainder by 32; 65 to 96 for each crew the number of cells that its
- * trace has stood on, the first included, at most 2^64 - 1. Without a trace a crew's other two words say nothing.
+ * The traces of 32 crews, numbered 0 to 31. The state is the caller's: {0} begins, with no trace, crew 0 next and a total of 0; a copy
+ * goes on by itself, and calls at the same time must not share one. Every content is a state. Words 0 to 31 have for each crew 1 for a
+ * trace on its way, 2 for a finished one, and any other number for none (writing 0 there gives up the trace); 32 to 63 the cell that
+ * it stands on, in their low 32 bits; 64 the crew whose turn is next, by its remainder by 32; 65 the total.
  */
 typedef struct {
-    uint64_t words[97];
+    uint64_t words[66];
 } tervuola_crews;
-
-/*
- * A crew's own count, which it lends when it collects: the number of cells of the routes that it has collected, added up, at most
- * 2^64 - 1. It is the caller's, one for each crew, beside the state: {0} begins, every content is a count, and calls at the same time
- * must not share one.
- */
-typedef struct {
-    uint64_t cells;
-} tervuola_tally;
 
 /* What a collection says of the crew's trace. */
 enum tervuola_status {
@@ -196,7 +181,6 @@ typedef struct {
     uint32_t place;
     uint32_t status; /* enum tervuola_status; 0 beside a refusal */
     uint32_t cell;   /* the last cell of a finished trace, otherwise 0 */
-    uint64_t cells;  /* the number of cells that a finished trace stood on, otherwise 0 */
 } tervuola_collected;
 
 /* The number of 32-bit elements that a work buffer needs, for rows and columns in range: a constant where they are constants. */
@@ -417,8 +401,7 @@ static inline const uint32_t *tervuola_part_of(const uint32_t *first, tervuola_p
 }
 
 /*
- * A crew hands in a cell, to collect later the outlet that it drains to: its trace stands on the cell, the first that it counts, and is
- * on its way.
+ * A crew hands in a cell, to collect later the outlet that it drains to: its trace stands on the cell and is on its way.
  * codes: rows * cols. crew: 0 to 31, one without a trace. cell: one with a code above 0. crews: the state. work: at least
  * 4 * rows * cols.
  * Numbers: 5 6 7 9 11 12 21 22 23. Promise: HandInPromise. Linear in the number of cells.
@@ -431,11 +414,11 @@ tervuola_answer tervuola_hand_in(uint32_t rows, uint32_t cols,
 
 /*
  * Turns, which go round the crews by number and carry on where the last run stopped. A turn moves that crew's trace one cell down, or
- * finishes it at its last cell; with no trace, or a finished one, it does nothing. Each cell that a trace is moved to counts, each time
- * it is reached; to finish it counts none. A trace whose route has r cells is finished within 32 * r turns of being handed in (a refused
- * run takes none), if every hand-in and run since has lent the same sheet of codes; and if the state began with no trace handed in, no
- * run on that sheet gets 23. Another sheet may be lent: the traces go on from where they stand, and a run gets 23, and takes no turn,
- * where one that is not finished stands off that sheet or on a cell with code 0.
+ * finishes it at its last cell; with no trace, or a finished one, it does nothing. The total grows by one for each turn that moves or
+ * finishes a trace, and stays at 2^64 - 1 once there. A trace whose route has r cells is finished within 32 * r turns of being handed
+ * in (a refused run takes none), if every hand-in and run since has lent the same sheet of codes; and if the state began with no trace
+ * handed in, no run on that sheet gets 23. Another sheet may be lent: the traces go on from where they stand, and a run gets 23, and
+ * takes no turn, where one that is not finished stands off that sheet or on a cell with code 0.
  * codes: rows * cols. turns: 0 to 65,535, of 16 bits: C cuts a larger number, and a route of more than 2,047 cells may need more than one
  * run. crews: the state. work: at least 4 * rows * cols.
  * Numbers: 5 6 7 9 11 12 23, also with 0 turns. Promise: RunPromise; what is shown of lists of calls: Operations.antt. 11 and 12 are
@@ -448,18 +431,19 @@ tervuola_answer tervuola_run(uint32_t rows, uint32_t cols,
                              uint32_t *work, size_t work_len);
 
 /*
- * A crew asks for its trace. A finished one is collected: its last cell and the number of cells that it stood on, first and last
- * included, are given, that number is added to the crew's count, and the crew is free to hand in the next. Where the sum does not fit
- * the count becomes 2^64 - 1. For a trace on its way the status says that it is waiting, for none that there is no trace, both with
- * number 0, and nothing changes, the count neither.
- * crew: 0 to 31. crews: the state. tally: the crew's own count, the same one each time, such as &tallies[crew]; it must not
- * overlap the state.
- * Numbers: 21. Promise: CollectPromise; what is shown of a state that began with no trace, where one sheet of codes was lent throughout:
- * cell + 1 is the basin label of the cell that was handed in, and cells the number of cells of its route (CollectsOutlet and CollectsCells
- * in Operations.antt); and of a crew that has lent one count throughout, begun at 0: it is the sum, over the routes that the crew has
- * collected, of the number of their cells, while that fits (CountsAreSums), and past that 2^64 - 1 (CountsAddUp).
+ * A crew asks for its trace. A finished one is collected: its last cell is given, and the crew is free to hand in the next. For one
+ * on its way the status says that it is waiting, for none that there is no trace, both with number 0, and nothing changes.
+ * crew: 0 to 31. crews: the state.
+ * Numbers: 21. Promise: CollectPromise; where the state began with no trace and one sheet of codes was lent throughout, cell + 1 is the
+ * basin label of the cell that was handed in (CollectsOutlet in Operations.antt).
  */
-tervuola_collected tervuola_collect(uint32_t crew, tervuola_crews *crews, tervuola_tally *tally);
+tervuola_collected tervuola_collect(uint32_t crew, tervuola_crews *crews);
+
+/* The total: how many turns have moved or finished a trace since {0}, at most 2^64 - 1. */
+static inline uint64_t tervuola_turns_worked(const tervuola_crews *crews)
+{
+    return crews->words[65];
+}
 
 /*
  * Reads a text frame (docs/FORMATS.md) of any bytes into rows, columns and elevations.

@@ -1,4 +1,4 @@
-// Every call of libtervuola.a against the second program as it is after request 12, on its sheets, on sheets of ponds, on sheets cut
+// Every call of libtervuola.a against the second program as it is after request 11, on its sheets, on sheets of ponds, on sheets cut
 // from larger ones, on sheets with gaps, under all closed sides, with cells of many shapes, on drops that tie by them, on random codes,
 // on starts whose labels are different and repeated, on lists of culverts, good and bad ones, on walks, routes and lists of any numbers,
 // on lists of hand-ins, runs and collections from any state of the crews, on damaged texts, and on wrong lengths. What is written is
@@ -10,14 +10,14 @@
 //   compare big KIND SIDE      one large sheet, by the second program's fast layer; the kind "lakes" is one of gaps
 // A result buffer is lent with guard elements on both sides, and holds a pattern before the call; a no must leave it, and the work buffer
 // up to question 9, which 17 and 20 come before. The counts call must leave the first 2 * rows * cols places of the work buffer
-// beside every answer. Of the crews' state each of the 97 words is compared after each call, where the second program has no word for
-// it too: a call changes just the words that it is said to change; and so are the counts of all 32 crews, of which a collection lends one.
+// beside every answer. Of the crews' state each of the 66 words is compared after each call, where the second program has no word for
+// it too: a call changes just the words that it is said to change.
 #include "../../include/tervuola.h"
 #include "../second/gen.hpp"
 #include <array>
 #include <cstring>
 using namespace oracle;
-static const int REQUEST = 12;
+static const int REQUEST = 11;
 // before request 9, when every void was outside
 static const int BEFORE_GAPS = 8;
 // before request 11, when a label could be on more than one cell
@@ -1797,25 +1797,22 @@ static CodeSheet code_sheet(u64 rows, u64 cols, const V<u8> &codes) {
   s.codes = codes;
   return s;
 }
-// the words of a state
-static const u64 WORDS = 97;
-// what the second program makes of a state; it knows no cell of a crew without a trace, and no number of cells
+// what the second program makes of a state; it knows no cell of a crew without a trace
 static Crews crews_of(const V<u64> &w) {
   Crews s;
   for (u64 k = 0; k < 32; k++)
     if (w[k] == 1 || w[k] == 2) {
       s.c[k].st = w[k] == 1 ? Crews::GOING : Crews::DONE;
       s.c[k].cell = (u32)w[32 + k];
-      s.c[k].stood = w[65 + k];
     }
   s.next = (u32)(w[64] % 32);
+  s.total = w[65];
   return s;
 }
 // The words that each call changes when it is accepted; all others stay, whatever they hold. `s` is what the second program has after the run.
 static void words_handed_in(V<u64> &w, u32 crew, u32 cell) {
   w[crew] = 1;
   w[32 + crew] = cell;
-  w[65 + crew] = 1;
 }
 static void words_run(V<u64> &w, uint16_t turns, const Crews &s) {
   for (u64 k = 0; k < 32; k++)
@@ -1823,33 +1820,28 @@ static void words_run(V<u64> &w, uint16_t turns, const Crews &s) {
       w[k] = s.c[k].st == Crews::DONE ? 2 : 1;
       if ((u32)w[32 + k] != s.c[k].cell) // a trace that does not move keeps its word
         w[32 + k] = s.c[k].cell;
-      w[65 + k] = s.c[k].stood;
     }
   if (turns)
     w[64] = s.next;
+  w[65] = s.total;
 }
 static void words_collected(V<u64> &w, u32 crew) {
   if (w[crew] == 2)
     w[crew] = 0;
 }
-// The state and the counts of all crews as they are lent, and as the second program goes on with them. A crew above 31 lends the count
-// of the crew that is its remainder by 32.
+// the state as it is lent, and as the second program goes on with it
 struct Traces {
-  Lent<u64> words, counts;
+  Lent<u64> words;
   Crews second;
-  V<u64> second_counts;
-  Traces(const V<u64> &w, const V<u64> &counts) : words(w), counts(counts), second(crews_of(w)), second_counts(counts) {}
+  explicit Traces(const V<u64> &w) : words(66), second(crews_of(w)) { std::copy(w.begin(), w.end(), words.at()); }
   tervuola_crews *lent() { return reinterpret_cast<tervuola_crews *>(words.at()); }
-  tervuola_tally *count_of(u32 crew) { return reinterpret_cast<tervuola_tally *>(counts.at() + crew % 32); }
-  void begin_count(u32 crew, u64 cells) { counts.at()[crew % 32] = second_counts[crew % 32] = cells; }
 };
-static void same_state(const char *call, const Traces &t, const V<u64> &want, u64 round) {
+static void same_state(const char *call, Traces &t, const V<u64> &want, u64 round) {
   same_list(call, "the state", t.words, want, round);
-  same_list(call, "the counts", t.counts, t.second_counts, round);
   Crews s = crews_of(want);
-  bool same = s.next == t.second.next;
+  bool same = s.next == t.second.next && s.total == t.second.total && tervuola_turns_worked(t.lent()) == s.total;
   for (u64 k = 0; k < 32; k++)
-    same = same && s.c[k].st == t.second.c[k].st && s.c[k].cell == t.second.c[k].cell && s.c[k].stood == t.second.c[k].stood;
+    same = same && s.c[k].st == t.second.c[k].st && s.c[k].cell == t.second.c[k].cell;
   checks++;
   if (!same)
     fail(call, "what the state says", round);
@@ -1927,10 +1919,10 @@ static void hand_in_round(Traces &t, const CodeSheet &s, u32 crew, u32 cell, Len
       [&] { return call_hand_in(l.d.rows, l.d.cols, l.codes, l.work.n, t.second, crew, cell); },
       [&](V<u64> &w) { words_handed_in(w, crew, cell); }, round);
 }
-// the crews that a run has named with 23; runs of 0 turns that it refused so, and that were accepted; runs with all turns there can be;
-// traces that came to the largest number of cells, and that moved on past it
+// the crews that a run has named with 23; runs of 0 turns that it refused so, and that were accepted; runs with all turns there can be; runs that came to
+// the largest total, and that worked on past it
 static std::set<u64> lost_crews;
-static u64 lost_without_turns = 0, no_turns = 0, most_turns = 0, largest_reached = 0, largest_kept = 0;
+static u64 lost_without_turns = 0, no_turns = 0, most_turns = 0, total_reached = 0, total_kept = 0;
 static void run_round(Traces &t, const CodeSheet &s, uint16_t turns, Lengths len, u64 round) {
   CodesLent l(s, len);
   const Crews start = t.second;
@@ -1952,82 +1944,32 @@ static void run_round(Traces &t, const CodeSheet &s, uint16_t turns, Lengths len
     return;
   no_turns += turns == 0;
   most_turns += turns == 65535;
-  for (u64 k = 0; k < 32; k++)
-    if (start.c[k].st == Crews::GOING && start.c[k].cell != t.second.c[k].cell) {
-      largest_reached += start.c[k].stood < TOP && t.second.c[k].stood == TOP;
-      largest_kept += start.c[k].stood == TOP;
+  total_reached += start.total < TOP && t.second.total == TOP;
+  for (u64 k = 0; start.total == TOP && k < 32; k++)
+    if (start.c[k].st != t.second.c[k].st) {
+      total_kept++;
+      return;
     }
 }
 // how often a collection has given each status, and a cell from a word with more than 32 bits
 static u64 statuses[3], long_words = 0;
-// Sums of the count that a crew lends and the number of cells that its trace stood on: of routes one after the other, sums past 32 bits
-// and past 63, those that are just the largest number, one more, and more than that; numbers that are added to the largest, are 0, are
-// past 32 bits, and are the largest themselves; and counts that stay, above 0, beside "no trace", "waiting" and a refusal, with a number
-// of cells above 0 in the crew's word.
-enum Sums {
-  NEXT_ROUTE, PAST_32, PAST_63, JUST_FITS, ONE_MORE, FAR_MORE, TO_LARGEST, ZERO_NUMBER, LONG_NUMBER, LARGEST_NUMBER,
-  KEPT_BY, SUMS = KEPT_BY + 3
-};
-static const char *const SUM_NAMES[SUMS] = {
-    "of one route more", "past 32 bits", "past 63", "the largest number", "one more", "more than that", "to the largest", "of no cells",
-    "of a number past 32 bits", "of the largest", "kept with no trace", "kept waiting", "kept with 21"};
-static std::array<u64, SUMS> summed;
-static void count_sum(u64 count, u64 cells) {
-  summed[NEXT_ROUTE] += count > 0 && count < 1000 && cells > 0 && cells < 1000;
-  summed[PAST_32] += count < 4294967296u && cells < 4294967296u && count + cells > 4294967295u;
-  summed[PAST_63] += !(count >> 63) && !(cells >> 63) && (count + cells) >> 63;
-  summed[JUST_FITS] += count < TOP && cells > 0 && count == TOP - cells;
-  summed[ONE_MORE] += count < TOP && cells > 0 && count == TOP - cells + 1;
-  summed[FAR_MORE] += count < TOP && cells > 0 && count > TOP - cells + 1;
-  summed[TO_LARGEST] += count == TOP && cells > 0;
-  summed[ZERO_NUMBER] += count > 0 && cells == 0;
-  summed[LONG_NUMBER] += cells > 4294967295u && cells < TOP;
-  summed[LARGEST_NUMBER] += cells == TOP;
-}
-static void collect_once(Traces &t, u32 crew, u64 round) {
+static void collect_round(Traces &t, u32 crew, u64 round) {
   V<u64> want = t.words.list();
-  const u64 count = t.second_counts[crew % 32], stood = t.second.c[crew % 32].stood, word = want[65 + crew % 32];
+  u64 count = 0;
   bool long_word = crew < 32 && want[32 + crew] > 4294967295u;
-  Reply r = call_collect(t.second, crew, t.second_counts[crew % 32]);
-  tervuola_collected a = tervuola_collect(crew, t.lent(), t.count_of(crew));
+  Reply r = call_collect(t.second, crew, count);
+  tervuola_collected a = tervuola_collect(crew, t.lent());
   same_answer("collect", a.number, a.place, r, round);
   if (a.status != (u32)r.answer)
     fail("collect", "the status", round);
   if (a.cell != r.cell)
     fail("collect", "the cell", round);
-  if (a.cells != (r.answer == 2 ? stood : 0))
-    fail("collect", "the number of cells", round);
   if (a.number == 0)
     words_collected(want, crew);
   same_state("collect", t, want, round);
   answers["collect"][a.number]++;
   statuses[a.status] += a.number == 0;
   long_words += a.status == 2 && long_word;
-  if (a.status == 2)
-    count_sum(count, stood);
-  else
-    summed[KEPT_BY + (a.number ? 2 : a.status)] += count > 0 && word > 0;
-}
-// from copies of the state with counts at the edges first, and then with the count that the crew has lent throughout
-static void collect_round(Traces &t, u32 crew, u64 round) {
-  const u64 cells = t.words.list()[65 + crew % 32];
-  for (u64 count : {(u64)0, TOP, TOP - 1, TOP - cells, TOP - cells + 1, TOP - cells - 1, (u64)4294967295u, TOP >> 1}) {
-    Traces copy(t);
-    copy.begin_count(crew, count);
-    collect_once(copy, crew, round);
-  }
-  collect_once(t, crew, round);
-}
-// each kind of sum has been met, at least so often
-static bool every_kind_of_sum(u64 least) {
-  bool all = true;
-  printf("compare: sums of crews' counts:");
-  for (int k = 0; k < SUMS; k++) {
-    printf("  %s: %llu", SUM_NAMES[k], (unsigned long long)summed[k]);
-    all = all && summed[k] && summed[k] >= least;
-  }
-  printf("\n");
-  return all;
 }
 // a cell: mostly one with a code, now and then any or one off the sheet
 static u32 some_cell(gen::Rng &g, const V<u8> &codes) {
@@ -2051,20 +1993,16 @@ static uint16_t some_turns(gen::Rng &g) {
     return g.chance(50) ? 65535 : (uint16_t)g.below(65536);
   return g.chance(40) ? edges[g.below(6)] : (uint16_t)g.below(200);
 }
-// a number of cells, of a trace or of all routes of a crew
-static u64 some_count(gen::Rng &g) {
-  const u64 edges[] = {0, 1, 4294967295u, TOP >> 1, TOP - g.below(99), TOP - 1, TOP, g.g()};
-  return edges[g.below(8)];
-}
 // Any content is a state: zeros, any numbers, or numbers at the edges of what they mean, with traces that mostly stand on a route.
 static V<u64> some_state(gen::Rng &g, const V<u8> &codes, u64 kind) {
-  V<u64> w(WORDS);
+  V<u64> w(66);
   for (auto &x : w)
     x = kind ? g.g() : 0;
   if (kind < 2)
     return w;
   static const u64 status[] = {0, 1, 1, 1, 1, 2, 2, 3, 257, 4294967297u, 4294967298u, TOP - 1, TOP};
   static const u64 next[] = {0, 31, 32, 33, 63, 4294967301u, TOP - 31, TOP};
+  const u64 total[] = {0, 4294967295u, TOP - g.below(99), TOP - 1, TOP, g.g()};
   bool lost = g.chance(15);
   for (u64 k = 0; k < 32; k++) {
     u32 cell = some_cell(g, codes);
@@ -2072,21 +2010,14 @@ static V<u64> some_state(gen::Rng &g, const V<u8> &codes, u64 kind) {
     if (w[k] == 1 && !lost && no_route(codes, cell))
       w[k] = 3;
     w[32 + k] = cell + (g.chance(40) ? g.g() << 32 : 0);
-    w[65 + k] = some_count(g);
   }
   w[64] = g.chance(50) ? next[g.below(8)] : g.below(32);
+  w[65] = total[g.below(6)];
   return w;
-}
-// what the crews lend: zeros, or any numbers and such at the edges
-static V<u64> some_counts(gen::Rng &g, bool zeros) {
-  V<u64> l(32);
-  for (auto &x : l)
-    x = zeros ? 0 : some_count(g);
-  return l;
 }
 // a list of hand-ins, runs and collections, each on one of the sheets, with right lengths and sizes or now and then wrong ones
 static void crews_list(const V<CodeSheet> &sheets, const V<u64> &state, u64 count, gen::Rng &g, bool wrong, u64 round) {
-  Traces t(state, some_counts(g, g.chance(50)));
+  Traces t(state);
   for (u64 i = 0; i < count; i++) {
     const CodeSheet &s = sheets[g.below(sheets.size())];
     Lengths len{g, wrong};
@@ -2115,12 +2046,12 @@ static void lost_in_turn() {
   const CodeSheet s = code_sheet(1, 2, {2, 0});
   gen::Rng g(1);
   for (u64 k = 0; k < 32; k++) {
-    V<u64> w(WORDS);
+    V<u64> w(66);
     for (u64 j = 0; j < 32; j++) {
       w[j] = 1;
       w[32 + j] = j < k ? 0 : 1 + j % 2;
     }
-    Traces t(w, V<u64>(32));
+    Traces t(w);
     run_round(t, s, k % 2 ? 32 : 0, Lengths{g, false}, k);
   }
 }
@@ -2139,7 +2070,7 @@ static void small_crews(u64 seed) {
 // on a large sheet: crews at both ends of the sheet and between them, the first and the last crew among them
 static void large_crews(const Desc &d, const V<u8> &codes, gen::Rng &g) {
   const CodeSheet s = code_sheet(d.rows, d.cols, codes);
-  Traces t(V<u64>(WORDS), V<u64>(32));
+  Traces t(V<u64>(66));
   Lengths len{g, false};
   const u32 cells[] = {0, some_cell(g, codes), (u32)d.n() - 1};
   for (u32 k = 0; k < 3; k++)
@@ -2440,11 +2371,10 @@ static int rounds(u64 count, u64 seed) {
          (unsigned long long)side_corner_ties, (unsigned long long)border_ties, (unsigned long long)side_side_ties, (unsigned long long)three_ties,
          (unsigned long long)other_codes);
   printf("compare: collections: %llu of no trace, %llu waiting, %llu finished, %llu of them from a word past 32 bits; runs: %llu crews named with 23, %llu "
-         "times without a turn; %llu accepted without a turn, %llu of 65,535; traces: %llu that came to the largest number of cells, "
-         "%llu that moved on from it\n",
+         "times without a turn; %llu accepted without a turn, %llu of 65,535, %llu that came to the largest total, %llu that went on from it\n",
          (unsigned long long)statuses[0], (unsigned long long)statuses[1], (unsigned long long)statuses[2], (unsigned long long)long_words,
          (unsigned long long)lost_crews.size(), (unsigned long long)lost_without_turns, (unsigned long long)no_turns, (unsigned long long)most_turns,
-         (unsigned long long)largest_reached, (unsigned long long)largest_kept);
+         (unsigned long long)total_reached, (unsigned long long)total_kept);
   printf("compare: Table 5's own starts: %llu sheets with two or more, up to %llu of them\n", (unsigned long long)own_starts,
          (unsigned long long)most_own_starts);
   bool all = every_answer("counts", {0, 5, 6, 7, 8, 9, 11, 12});
@@ -2474,7 +2404,7 @@ static int rounds(u64 count, u64 seed) {
   all = every_answer("run", {0, 5, 6, 7, 9, 11, 12, 23}) && every_order("run", codes_order) && all;
   all = every_answer("collect", {0, 21}) && all;
   all = all && statuses[0] && statuses[1] && statuses[2] && long_words && lost_crews.size() == 32 && lost_without_turns && no_turns && most_turns;
-  all = every_kind_of_sum(least / 10) && all && largest_reached && largest_kept;
+  all = all && total_reached && total_kept;
   all = all && side_corner_ties && border_ties && side_side_ties && three_ties && other_codes;
   all = all && shared_whole && shared_part && shared_none && routes_met && routes_apart && both_bad;
   return checks && all && opened_border && opened_banks && inward_wet && inward_flat && raised_texts && exact_rooms && short_rooms ? 0 : 1;

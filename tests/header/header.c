@@ -28,7 +28,7 @@ tervuola_located tervuola_check_lists(uint32_t, uint32_t, const uint32_t *, size
 tervuola_part tervuola_shared_ending(uint32_t, uint32_t, const uint32_t *, size_t, const uint32_t *, size_t);
 tervuola_answer tervuola_hand_in(uint32_t, uint32_t, const uint8_t *, size_t, uint32_t, uint32_t, tervuola_crews *, uint32_t *, size_t);
 tervuola_answer tervuola_run(uint32_t, uint32_t, const uint8_t *, size_t, uint16_t, tervuola_crews *, uint32_t *, size_t);
-tervuola_collected tervuola_collect(uint32_t, tervuola_crews *, tervuola_tally *);
+tervuola_collected tervuola_collect(uint32_t, tervuola_crews *);
 #ifdef __cplusplus
 }
 #endif
@@ -45,7 +45,6 @@ int main(void)
     const tervuola_part none = {0, 0}, last = {1, 1};
     tervuola_located located;
     tervuola_crews crews = {0};
-    tervuola_tally count = {0};
     work[35] = 1;
     EXPECT(sizeof work == 144 && work[35] == 1);
     EXPECT(TERVUOLA_WORK_SIZE(TERVUOLA_MAX_SIDE, TERVUOLA_MAX_SIDE) == 64000000u);
@@ -81,14 +80,13 @@ int main(void)
     EXPECT(sizeof(tervuola_located) == 2 * sizeof(size_t) && sizeof(tervuola_part) == 2 * sizeof(size_t));
     EXPECT(sizeof located.place == sizeof(size_t) && offsetof(tervuola_located, place) == sizeof(size_t));
     EXPECT(offsetof(tervuola_part, at) == 0 && offsetof(tervuola_part, count) == sizeof(size_t));
-    /* the crews' state is 97 words and no more, a crew's count one of 64 bits; {0} begins both */
-    EXPECT(sizeof(tervuola_crews) == 97 * 8 && sizeof crews.words == sizeof crews && sizeof crews.words[0] == 8);
-    for (k = 0; k < 97; k++) EXPECT(crews.words[k] == 0);
-    EXPECT(sizeof(tervuola_tally) == 8 && sizeof count.cells == 8 && count.cells == 0);
-    EXPECT(sizeof(tervuola_collected) == 24 && offsetof(tervuola_collected, number) == 0 && offsetof(tervuola_collected, place) == 4);
-    EXPECT(offsetof(tervuola_collected, status) == 8 && offsetof(tervuola_collected, cell) == 12);
-    EXPECT(offsetof(tervuola_collected, cells) == 16);
-    EXPECT(sizeof tervuola_collect(31, &crews, &count).cell == 4 && sizeof tervuola_collect(31, &crews, &count).cells == 8);
+    /* the crews' state is 66 words and no more; {0} begins; the total is the last */
+    EXPECT(sizeof(tervuola_crews) == 66 * 8 && sizeof crews.words == sizeof crews && sizeof(tervuola_collected) == 16);
+    EXPECT(offsetof(tervuola_collected, place) == 4 && offsetof(tervuola_collected, status) == 8 && offsetof(tervuola_collected, cell) == 12);
+    for (k = 0; k < 66; k++) EXPECT(crews.words[k] == 0);
+    EXPECT(tervuola_turns_worked(&crews) == 0);
+    crews.words[65] = UINT64_MAX;
+    EXPECT(tervuola_turns_worked(&crews) == UINT64_MAX);
     EXPECT(tervuola_part_of(cells, none) == cells && tervuola_part_of(cells, last) == cells + 1 && tervuola_part_of(NULL, none) == NULL);
     return 0;
 }

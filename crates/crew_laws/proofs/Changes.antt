@@ -1,20 +1,18 @@
 -- What a hand-in and a collection change, and what an accepted hand-in says.
 use mathlib.Core.Path.{◌≡◌, refl, ◌∙◌, ap}
-use mathlib.Core.Bool.{Bool, true, false, not, cond}
+use mathlib.Core.Bool.{Bool, true, false, not, cond, ◌&&◌}
 use mathlib.Core.List.{List, [], ◌∷◌}
 use Prim.Native.Nat.{ℕ, ◌+◌, ◌%◌, ◌≤◌, ◌<◌}
 use native.Mathlib.Omega.{arith}
 use lib.Dec.{ltb}
 use lib.ListN.{length, get_or, set, length-set}
-use lib.Seq.{get_or-set_same}
-use borrow.Author.Tests.{eqb-true, ltb-true, lt-ltb}
+use borrow.Author.Tests.{eqb-true, ltb-true}
 use Rattle.grid.specs.declared.Grid.{Grid}
 use Rattle.grid.specs.Sheet.{size}
 use Rattle.grid.specs.Routes.{has_code, first_endless}
 use Rattle.grid.specs.Checks.{is_accepted, ask_sheets, ask_work, ask_codes}
-use Rattle.grid.specs.Crews.{no_trace, waiting, status_of, stands_on, next_crew, cells_of, is_finished, has_trace, ask_trace, hand_in_check}
-use Rattle.grid.specs.Crews.{handed_in, is_ready, freed}
-use Rattle.grid_laws.proofs.Tests.{cond_true, cond_false, and_true, and_left, and_false_left, and_false_right, not_is_true}
+use Rattle.grid.specs.Crews.{no_trace, waiting, status_of, stands_on, next_crew, is_finished, has_trace, ask_trace, hand_in_check, handed_in, freed}
+use Rattle.grid_laws.proofs.Tests.{cond_false, and_left, and_false_left, and_false_right, not_is_true}
 use Rattle.checks.proofs.Gate.{Gate, one, both, weaken, passed}
 use Rattle.checks.proofs.Asked.{check_gate}
 use Rattle.checks.proofs.Questions.{codes_gate}
@@ -66,62 +64,41 @@ handed_in_lem g codes s work k c e =
 module _ (s : List ℕ) (j c : ℕ) where
   pub length_handed : length (handed_in s j c) ≡ length s
   unfolding handed_in
-  length_handed =
-      length-set (set (set s (32 + j) c) (65 + j) 1) j waiting ∙ length-set (set s (32 + j) c) (65 + j) 1 ∙ length-set s (32 + j) c
+  length_handed = length-set (set s (32 + j) c) j waiting ∙ length-set s (32 + j) c
 
-  handed_at : (i : ℕ) → (i ≡ j → ⊥) → (i ≡ 32 + j → ⊥) → (i ≡ 65 + j → ⊥) → get_or (handed_in s j c) i 0 ≡ get_or s i 0
+  pub handed_at : (i : ℕ) → (i ≡ j → ⊥) → (i ≡ 32 + j → ⊥) → get_or (handed_in s j c) i 0 ≡ get_or s i 0
   unfolding handed_in
-  handed_at i f h l =
-      put_other (set (set s (32 + j) c) (65 + j) 1) j i waiting f ∙ put_other (set s (32 + j) c) (65 + j) i 1 l ∙ put_other s (32 + j) i c h
-
-  -- to its own crew, whose trace stands on one cell
-  module _ (long : length s ≡ 97) (on : j < 32) where
-    pub handed_own : (status_of (handed_in s j c) j ≡ waiting) × (get_or (handed_in s j c) (32 + j) 0 ≡ c) × (cells_of (handed_in s j c) j ≡ 1)
-    unfolding handed_in
-    handed_own =
-        let t = set s (32 + j) c in
-        let u = set t (65 + j) 1 in
-        let a : length (set s (32 + j) c) ≡ length s = length-set s (32 + j) c in
-        let b : length (set (set s (32 + j) c) (65 + j) 1) ≡ length (set s (32 + j) c) = length-set t (65 + j) 1 in (
-          get_or-set_same u j waiting 0 (omega arith),
-          put_other u j (32 + j) waiting (λ e. omega arith) ∙ put_other t (65 + j) (32 + j) 1 (λ e. omega arith)
-              ∙ get_or-set_same s (32 + j) c 0 (omega arith),
-          put_other u j (65 + j) waiting (λ e. omega arith) ∙ get_or-set_same t (65 + j) 1 0 (omega arith),
-        )
+  handed_at i f h = put_other (set s (32 + j) c) j i waiting f ∙ put_other s (32 + j) i c h
 
   -- to another crew k
   module _ (k : ℕ) (small : k < 32) (on : j < 32) (f : k ≡ j → ⊥) where
     pub handed_status : status_of (handed_in s j c) k ≡ status_of s k
-    handed_status = handed_at k f (λ e. omega arith) (λ e. omega arith)
+    handed_status = handed_at k f (λ e. omega arith)
 
     pub handed_cell : stands_on (handed_in s j c) k ≡ stands_on s k
     handed_cell =
-        ap (λ (x : ℕ). x % 4294967296)
-        (handed_at (32 + k) (λ e. omega arith) (λ e. f (let q : k ≡ j = omega arith in q)) (λ e. omega arith))
-
-    pub handed_cells : cells_of (handed_in s j c) k ≡ cells_of s k
-    handed_cells = handed_at (65 + k) (λ e. omega arith) (λ e. omega arith) (λ e. f (let q : k ≡ j = omega arith in q))
+        ap (λ (x : ℕ). x % 4294967296) (handed_at (32 + k) (λ e. omega arith) (λ e. f (let q : k ≡ j = omega arith in q)))
 
   pub handed_next : j < 32 → next_crew (handed_in s j c) ≡ next_crew s
-  handed_next on = ap (λ (x : ℕ). x % 32) (handed_at 64 (λ e. omega arith) (λ e. omega arith) (λ e. omega arith))
+  handed_next on = ap (λ (x : ℕ). x % 32) (handed_at 64 (λ e. omega arith) (λ e. omega arith))
 
 -- ---- after a collection by crew j
 
 module _ (s : List ℕ) (j : ℕ) where
   pub length_freed : length (freed s j) ≡ length s
   unfolding freed
-  length_freed = go (is_ready s j)
+  length_freed = go (ltb j 32 && is_finished s j)
     where
       go : (t : Bool) → length (cond t (set s j no_trace) s) ≡ length s
       go true = length-set s j no_trace
       go false = refl
 
   -- only the crew's own status changes, and only of a crew below 32
-  freed_at : (i : ℕ) → (j < 32 → i ≡ j → ⊥) → get_or (freed s j) i 0 ≡ get_or s i 0
+  pub freed_at : (i : ℕ) → (j < 32 → i ≡ j → ⊥) → get_or (freed s j) i 0 ≡ get_or s i 0
   unfolding freed
-  freed_at i f = go (is_ready s j) refl
+  freed_at i f = go (ltb j 32 && is_finished s j) refl
     where
-      go : (t : Bool) → is_ready s j ≡ t → get_or (cond t (set s j no_trace) s) i 0 ≡ get_or s i 0
+      go : (t : Bool) → (ltb j 32 && is_finished s j) ≡ t → get_or (cond t (set s j no_trace) s) i 0 ≡ get_or s i 0
       go true e = put_other s j i no_trace (f (ltb-true j 32 (and_left (ltb j 32) (is_finished s j) e)))
       go false e = refl
 
@@ -134,19 +111,11 @@ module _ (s : List ℕ) (j : ℕ) where
   unfolding freed
   freed_early e = cond_false _ _ (and_false_right (ltb j 32) e)
 
-  -- a finished one is
-  pub freed_done : j < 32 → is_finished s j ≡ true → freed s j ≡ set s j no_trace
-  unfolding freed
-  freed_done small e = cond_true _ _ (and_true (lt-ltb j 32 small) e)
-
   pub freed_next : next_crew (freed s j) ≡ next_crew s
   freed_next = ap (λ (x : ℕ). x % 32) (freed_at 64 (λ h e. omega arith))
 
   pub freed_cell : (k : ℕ) → stands_on (freed s j) k ≡ stands_on s k
   freed_cell k = ap (λ (x : ℕ). x % 4294967296) (freed_at (32 + k) (λ h e. omega arith))
-
-  pub freed_cells : (k : ℕ) → cells_of (freed s j) k ≡ cells_of s k
-  freed_cells k = freed_at (65 + k) (λ h e. omega arith)
 
   -- to another crew k
   pub freed_status : (k : ℕ) → (k ≡ j → ⊥) → status_of (freed s j) k ≡ status_of s k

@@ -8,14 +8,14 @@ use Prim.Native.Nat.{ℕ, zero, suc, ◌+◌, ◌%◌, ◌≤◌, ◌<◌}
 use native.Mathlib.Omega.{arith}
 use native.Mathlib.Decide.{dec_lt}
 use lib.Dec.{eqb}
-use lib.ListN.{length, get_or}
+use lib.ListN.{length, get_or, set}
+use lib.Seq.{get_or-set_same, set_out}
 use borrow.Author.Tests.{eq-eqb, eqb-true, eqb-false}
 use Rattle.grid.specs.declared.Grid.{Grid}
 use Rattle.grid.specs.declared.Answer.{Answer}
 use Rattle.grid.specs.Routes.{has_code, receiver}
 use Rattle.grid.specs.Checks.{accepted, is_accepted, ask_sheets, ask_work, ask_codes}
-use Rattle.grid.specs.Crews.{waiting, finished, status_of, stands_on, next_crew, is_on_way, moved_to, stepped, turn, turns, first_lost, ask_lost}
-use Rattle.grid.specs.Crews.{run_check}
+use Rattle.grid.specs.Crews.{waiting, finished, status_of, stands_on, next_crew, is_on_way, stepped, turn, turns, first_lost, ask_lost, run_check}
 use Rattle.grid.specs.Operations.{run, after, after_all, RunsSplit}
 use Rattle.grid_laws.proofs.Tests.{test, cond_true, cond_false, and_false_left, and_false_right, and_rest_false, not_of_true, not_is_false}
 use Rattle.grid_laws.proofs.Below.{first_none, first_all}
@@ -24,28 +24,30 @@ use Rattle.checks.proofs.Gate.{Gate, one, both, weaken, passed}
 use Rattle.checks.proofs.Asked.{check_gate}
 use Rattle.checks.proofs.Questions.{codes_gate}
 use Rattle.crew_laws.specs.Standing.{Standing}
-use Rattle.crew_laws.proofs.Turns.{put_other, moved_to_lem, moved_off, own_at, other_status, other_cell, idle_status}
+use Rattle.crew_laws.proofs.Turns.{put_other, own_at, other_status, other_cell, idle_status}
 
 module _ (g : Grid) (codes : List ℕ) (few : length codes ≤ 4294967296) (s : List ℕ) (standing : Standing codes s) where
   -- a trace that moves stands on the cell that it moves to, or where it stood
   moved_cell : (k : ℕ) → has_code codes (receiver g codes (stands_on s k)) ≡ true → has_code codes (stands_on s k) ≡ true →
-      has_code codes (stands_on (moved_to s k (receiver g codes (stands_on s k))) k) ≡ true
+      has_code codes (get_or (set s (32 + k) (receiver g codes (stands_on s k))) (32 + k) 0 % 4294967296) ≡ true
   moved_cell k t u = go (dec_lt (32 + k) (length s))
     where
-      go : Dec (32 + k < length s) → has_code codes (stands_on (moved_to s k (receiver g codes (stands_on s k))) k) ≡ true
+      go : Dec (32 + k < length s) →
+          has_code codes (get_or (set s (32 + k) (receiver g codes (stands_on s k))) (32 + k) 0 % 4294967296) ≡ true
       go (yes h) =
           let b = code_below codes (receiver g codes (stands_on s k)) t in
           let q : receiver g codes (stands_on s k) % 4294967296 ≡ receiver g codes (stands_on s k) = omega arith in
-          ap (λ (x : ℕ). has_code codes (x % 4294967296)) (moved_to_lem s k (receiver g codes (stands_on s k)) h) ∙ ap (has_code codes) q ∙ t
+          ap (λ (x : ℕ). has_code codes (x % 4294967296)) (get_or-set_same s (32 + k) (receiver g codes (stands_on s k)) 0 h)
+          ∙ ap (has_code codes) q ∙ t
       go (no h) =
-          ap (λ (x : ℕ). has_code codes (x % 4294967296))
-          (moved_off s k (receiver g codes (stands_on s k)) (let q : length s ≤ 32 + k = omega arith in q)) ∙ u
+          ap (λ (x : List ℕ). has_code codes (get_or x (32 + k) 0 % 4294967296))
+          (set_out s (32 + k) (receiver g codes (stands_on s k)) (let q : length s ≤ 32 + k = omega arith in q)) ∙ u
 
   own : (k : ℕ) → k < 32 → next_crew s ≡ k → status_of s k ≡ waiting → has_code codes (stands_on (turn g codes s) k) ≡ true
   unfolding stepped
   own k h e t =
       let u = standing k h t in
-      let p = own_at g codes s k e (32 + k) (λ q. omega arith) t in
+      let p = own_at g codes s k e (32 + k) (omega arith) t in
       ap (λ (x : ℕ). has_code codes (x % 4294967296)) p
       ∙ ⊎_elim
       (λ b. ap (λ (x : List ℕ). has_code codes (get_or x (32 + k) 0 % 4294967296)) (cond_true _ _ b) ∙ moved_cell k b u)

@@ -1,15 +1,14 @@
--- What is shown of tracing for many crews (document 02, Wishes 8 and 12), "for every list of runs, hand-ins and collections that begins
--- with no trace handed in and in which all runs and hand-ins lend the same code sheet": named types, each with a law.
-use Rattle.std.specs.Prelude.{◌≡◌, true, false, cond, ◌&&◌, List, [], ◌∷◌, ◌++◌, ◌⊎◌, ℕ, ◌+◌, ◌*◌, ◌%◌, ◌≤◌, ◌<◌, eqb, length, replicate}
+-- What is shown of tracing for many crews (document 02, Wish 8), "for every list of runs, hand-ins and collections that begins with no
+-- trace handed in and in which all runs and hand-ins lend the same code sheet": named types, each with a law.
+use Rattle.std.specs.Prelude.{◌≡◌, true, false, cond, ◌&&◌, List, [], ◌∷◌, ◌++◌, ◌⊎◌, ℕ, zero, suc, min, ◌+◌, ◌*◌, ◌%◌, ◌≤◌, ◌<◌, eqb, length, replicate}
 use Rattle.grid.specs.declared.Grid.{Grid}
 use Rattle.grid.specs.declared.Answer.{Answer}
 use Rattle.grid.specs.declared.Collected.{Collected}
-use Rattle.grid.specs.declared.Tally.{Tally}
 use Rattle.grid.specs.Below.{last_of}
 use Rattle.grid.specs.Routes.{route, label_at}
 use Rattle.grid.specs.Checks.{is_accepted, of_collected}
-use Rattle.grid.specs.Crews.{finished, is_finished, has_trace, stands_on, next_crew, largest, capped_sum, turns, hand_in_check}
-use Rattle.grid.specs.Crews.{handed_in, first_lost, run_check, is_ready, collected, freed, tallied}
+use Rattle.grid.specs.Crews.{finished, is_on_way, is_finished, has_trace, stands_on, next_crew, total_of, largest, turns, hand_in_check}
+use Rattle.grid.specs.Crews.{handed_in, first_lost, run_check, collected, freed}
 use Rattle.grid.specs.Promises.{HandInPromise, RunPromise, CollectPromise}
 
 -- ---- lists of operations
@@ -48,6 +47,20 @@ module _ (g : Grid) (codes : List ℕ) where
   turns_in_all s [] = 0
   turns_in_all s (x ∷ l) = turns_in s x + turns_in_all (after s x) l
 
+  -- of n turns, those that move or finish a trace: at each it is the turn of a crew whose trace is on its way
+  unfoldable pub busy_turns : ℕ → List ℕ → ℕ
+  busy_turns zero s = 0
+  busy_turns (suc n) s = busy_turns n s + cond (is_on_way (turns g codes n s) (next_crew (turns g codes n s))) 1 0
+
+  unfoldable pub busy_in : List ℕ → Operation → ℕ
+  busy_in s (run work n) = cond (is_accepted (run_check g codes work s)) (busy_turns n s) 0
+  busy_in s (hand_in work crew cell) = 0
+  busy_in s (collect crew) = 0
+
+  unfoldable pub busy_in_all : List ℕ → List Operation → ℕ
+  busy_in_all s [] = 0
+  busy_in_all s (x ∷ l) = busy_in s x + busy_in_all (after s x) l
+
   -- the cells that crew k hands in, in turn: those of its accepted hand-ins
   unfoldable pub hands_in : ℕ → List ℕ → Operation → List ℕ
   hands_in k s (run work n) = []
@@ -57,32 +70,6 @@ module _ (g : Grid) (codes : List ℕ) where
   unfoldable pub hands_in_all : ℕ → List ℕ → List Operation → List ℕ
   hands_in_all k s [] = []
   hands_in_all k s (x ∷ l) = hands_in k s x ++ hands_in_all k (after s x) l
-
-  -- the count t of crew k after an operation: it lends it at its collections
-  unfoldable pub count_after : ℕ → List ℕ → ℕ → Operation → ℕ
-  count_after k s t (run work n) = t
-  count_after k s t (hand_in work crew cell) = t
-  count_after k s t (collect crew) = cond (eqb crew k) (tallied s crew t) t
-
-  -- "each crew lending the same count throughout"
-  unfoldable pub count_after_all : ℕ → List ℕ → ℕ → List Operation → ℕ
-  count_after_all k s t [] = t
-  count_after_all k s t (x ∷ l) = count_after_all k (after s x) (count_after k s t x) l
-
-  -- the first cells of crew k's "collected routes", in turn: where it collects a finished trace, b, the cell that it has handed in last
-  unfoldable pub collects_from : ℕ → List ℕ → (b : ℕ) → Operation → List ℕ
-  collects_from k s b (run work n) = []
-  collects_from k s b (hand_in work crew cell) = []
-  collects_from k s b (collect crew) = cond (eqb crew k && is_ready s crew) (b ∷ []) []
-
-  unfoldable pub collects_from_all : ℕ → List ℕ → (b : ℕ) → List Operation → List ℕ
-  collects_from_all k s b [] = []
-  collects_from_all k s b (x ∷ l) = collects_from k s b x ++ collects_from_all k (after s x) (last_of (hands_in k s x) b) l
-
-  -- "the sum, over .. routes, of the number of their cells": the routes from a list of cells
-  unfoldable pub route_cells : List ℕ → ℕ
-  route_cells [] = 0
-  route_cells (c ∷ l) = length (route g codes c) + route_cells l
 
   -- crew k's trace is finished, at the last cell of the route from c
   pub record FinishedFrom (s : List ℕ) (k c : ℕ) : Type 0 where
@@ -103,14 +90,14 @@ module _ (g : Grid) (codes : List ℕ) where
 
 -- no trace is handed in
 pub record NoTraces (s : List ℕ) : Type 0 where
-  pub long : length s ≡ 97
+  pub long : length s ≡ 66
   pub none : (k : ℕ) → k < 32 → has_trace s k ≡ false
 
 -- s is the state right after crew k's accepted hand_in of the cell c, anywhere in a list of operations; "begins with no trace handed in"
 -- is one of its beginnings, and what other traces the list begins with makes no difference here
 pub record JustHandedIn (g : Grid) (codes : List ℕ) (k c : ℕ) (s : List ℕ) : Type 0 where
   pub beginning : List ℕ
-  pub long : length beginning ≡ 97
+  pub long : length beginning ≡ 66
   pub before : List Operation
   pub work : ℕ
   pub accepts : is_accepted (hand_in_check g codes work k c (after_all g codes beginning before)) ≡ true
@@ -118,13 +105,14 @@ pub record JustHandedIn (g : Grid) (codes : List ℕ) (k c : ℕ) (s : List ℕ)
 
 -- ---- what is shown
 
--- 97 zeros: no trace, "first crew 0"
+-- 66 zeros: no trace, "first crew 0", the total "begun at 0"
 abbrev pub zeros : List ℕ
-zeros = replicate 97 0
+zeros = replicate 66 0
 
 pub record ZerosBegin : Type 0 where
   pub no_traces : NoTraces zeros
   pub first_crew : next_crew zeros ≡ 0
+  pub no_total : total_of zeros ≡ 0
 
 -- what the three calls answer and leave is what the operations do, by their promises: what is shown of lists of operations is shown of
 -- lists of calls
@@ -135,16 +123,14 @@ pub record CallsAreOperations : Type 0 where
   pub runs : (g : Grid) (codes : List ℕ) (n : ℕ) (crews₀ crews₁ work₀ work₁ : List ℕ) (r : Answer) →
       RunPromise g codes n crews₀ crews₁ work₀ work₁ r →
       (r ≡ answer_to g codes crews₀ (run (length work₀) n)) × (crews₁ ≡ after g codes crews₀ (run (length work₀) n))
-  pub collects : (g : Grid) (codes : List ℕ) (crew : ℕ) (crews₀ crews₁ : List ℕ) (tally₀ tally₁ : Tally) (r : Collected) →
-      CollectPromise crew crews₀ crews₁ tally₀ tally₁ r →
+  pub collects : (g : Grid) (codes : List ℕ) (crew : ℕ) (crews₀ crews₁ : List ℕ) (r : Collected) → CollectPromise crew crews₀ crews₁ r →
       (r ≡ collected crews₀ crew) × (crews₁ ≡ after g codes crews₀ (collect crew))
-      × (tally₁.cells ≡ count_after g codes crew crews₀ tally₀.cells (collect crew))
 
--- "A refused call changes nothing outside the work buffer", no crew's count either; "a refused run takes no turns"
+-- "A refused call changes nothing outside the work buffer"; "a refused run takes no turns"
 abbrev pub RefusedDoesNothing : Type 0
 RefusedDoesNothing =
     (g : Grid) (codes s : List ℕ) (x : Operation) → is_accepted (answer_to g codes s x) ≡ false →
-    (after g codes s x ≡ s) × (turns_in g codes s x ≡ 0) × ((k t : ℕ) → count_after g codes k s t x ≡ t)
+    (after g codes s x ≡ s) × (turns_in g codes s x ≡ 0)
 
 -- "A trace whose route has r cells is finished within 32 × r turns of being handed in": where the operations after the hand_in take so many
 -- turns, it stands finished after them, or one of them has collected it
@@ -190,36 +176,12 @@ CollectsOutlet =
 -- "Turns go round the crews by number .. and carry on where the last run stopped"
 abbrev pub TurnsGoRound : Type 0
 TurnsGoRound =
-    (g : Grid) (codes s : List ℕ) → length s ≡ 97 → (l : List Operation) →
+    (g : Grid) (codes s : List ℕ) → length s ≡ 66 → (l : List Operation) →
     next_crew (after_all g codes s l) ≡ (next_crew s + turns_in_all g codes s l) % 32
 
--- what a collection adds to the count that is lent
-pub record CollectionAdds : Type 0 where
-  -- "the number of cells that the finished trace stood on"
-  pub cells : (g : Grid) (codes s : List ℕ) (k t : ℕ) → (collected s k).status ≡ finished →
-      count_after g codes k s t (collect k) ≡ capped_sum t (collected s k).cells
-  -- "Collecting too early, or a refused collection, adds nothing"
-  pub nothing : (g : Grid) (codes s : List ℕ) (k t : ℕ) → ((collected s k).status ≡ finished → ⊥) →
-      ((collected s k).cells ≡ 0) × (count_after g codes k s t (collect k) ≡ t)
-
--- "first and last included": the number of cells that crew k collects is that of the whole route from the cell that it handed in last
-abbrev pub CollectsCells : Type 0
-CollectsCells =
-    (g : Grid) (codes s : List ℕ) → NoTraces s → (l : List Operation) (k b : ℕ) →
-    (collected (after_all g codes s l) k).status ≡ finished →
-    (collected (after_all g codes s l) k).cells ≡ length (route g codes (last_of (hands_in_all g codes k s l) b))
-
--- "After every list of hand-ins, runs and collections that begins with no trace handed in and stays on one code sheet, each crew lending
--- the same count throughout, a crew's count, begun at 0, is the sum, over its collected routes, of the number of their cells while that
--- sum fits" (b is any number: a crew that collects has handed in a cell)
-abbrev pub CountsAreSums : Type 0
-CountsAreSums =
-    (g : Grid) (codes s : List ℕ) → NoTraces s → (k : ℕ) → k < 32 → (l : List Operation) (b : ℕ) →
-    route_cells g codes (collects_from_all g codes k s b l) ≤ largest →
-    count_after_all g codes k s 0 l ≡ route_cells g codes (collects_from_all g codes k s b l)
-
--- and what it is beyond that, begun at any number of 64 bits: "where a sum doesn't fit, it becomes the largest number", and stays there
-abbrev pub CountsAddUp : Type 0
-CountsAddUp =
-    (g : Grid) (codes s : List ℕ) → NoTraces s → (k : ℕ) → k < 32 → (l : List Operation) (b t : ℕ) → t ≤ largest →
-    count_after_all g codes k s t l ≡ capped_sum t (route_cells g codes (collects_from_all g codes k s b l))
+-- "One 64-bit total .. grows by one for each turn that moves or finishes a trace, and stays at the largest 64-bit number once there". An
+-- array of 66 numbers of 64 bits meets both conditions
+abbrev pub TotalCounts : Type 0
+TotalCounts =
+    (g : Grid) (codes s : List ℕ) → length s ≡ 66 → total_of s ≤ largest → (l : List Operation) →
+    total_of (after_all g codes s l) ≡ min (total_of s + busy_in_all g codes s l) largest

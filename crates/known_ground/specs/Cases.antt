@@ -1,5 +1,5 @@
 -- "Known ground": each case is what a definition gives, and what documents 01 and 02 say it must be.
-use Rattle.std.specs.Prelude.{Bool, true, false, cond, ◌&&◌, List, [], ◌∷◌, ◌++◌, map, ℕ, eqb, get_or, set, ℤ, pos, negsuc, ◌-ℤ◌}
+use Rattle.std.specs.Prelude.{Bool, true, false, cond, ◌&&◌, List, [], ◌∷◌, map, ℕ, eqb, get_or, set, ℤ, pos, negsuc, ◌-ℤ◌}
 use Rattle.grid.specs.Below.{table}
 use Rattle.grid.specs.declared.Answer.{Answer}
 use Rattle.grid.specs.declared.Collected.{Collected}
@@ -15,8 +15,8 @@ use Rattle.grid.specs.Culverts.{opened}
 use Rattle.grid.specs.Checks.{accepted, ask_size, fill_check, directions_check, drain_check, codes_check, ponds_check, culverts_check}
 use Rattle.grid.specs.Checks.{watersheds_check}
 use Rattle.grid.specs.Endings.{ending_check, shared_ending}
-use Rattle.grid.specs.Crews.{largest, stands_on, next_crew, cells_of, hand_in_check, run_check, collected}
-use Rattle.grid.specs.Operations.{Operation, run, hand_in, collect, after_all, count_after_all, collects_from_all, route_cells, zeros}
+use Rattle.grid.specs.Crews.{largest, stands_on, next_crew, total_of, hand_in_check, run_check, collected}
+use Rattle.grid.specs.Operations.{Operation, run, hand_in, collect, after_all, zeros}
 use Rattle.grid.specs.Frames.{text_sheet, elevation_text, program_text}
 use Rattle.grid.specs.Writing.{write_check, raised}
 
@@ -260,23 +260,14 @@ crews_after l = after_all (grid_of 1 4) streams zeros l
 traced : ℕ → ℕ → List Operation
 traced a b = hand_in 16 0 0 ∷ hand_in 16 31 3 ∷ run 16 a ∷ run 16 b ∷ []
 
--- where the two stand, on how many cells they have stood, and whose turn is next
+-- where the two stand, whose turn is next, and the total
 standing : List ℕ → List ℕ
-standing s = stands_on s 0 ∷ cells_of s 0 ∷ stands_on s 31 ∷ cells_of s 31 ∷ next_crew s ∷ []
+standing s = stands_on s 0 ∷ stands_on s 31 ∷ next_crew s ∷ total_of s ∷ []
 
 collected_in : List ℕ → ℕ → List ℕ
 collected_in s crew =
     let c : Collected = collected s crew in
-    c.number ∷ c.place ∷ c.status ∷ c.cell ∷ c.cells ∷ []
-
--- what a count, begun at t and lent at each of its collections by crew 0, 1, 31 and 32, which there is not, is after these operations
-counts_after : ℕ → List Operation → List ℕ
-unfolding streams
-counts_after t l = map (λ k. count_after_all (grid_of 1 4) streams k zeros t l) (0 ∷ 1 ∷ 31 ∷ 32 ∷ [])
-
--- crew 0 hands in cell 0, then cell 1, and both are collected
-twice : List Operation
-twice = hand_in 16 0 0 ∷ run 16 33 ∷ collect 0 ∷ hand_in 16 0 1 ∷ run 16 32 ∷ collect 0 ∷ []
+    c.number ∷ c.place ∷ c.status ∷ c.cell ∷ []
 
 -- for a hand_in, and for a run, on the streams
 hand_in_answer : ℕ → ℕ → ℕ → List ℕ → List ℕ
@@ -292,7 +283,7 @@ run_in work s = number_and_place (run_check (grid_of 1 4) streams work s)
 unfoldable pub known_ground : List Case
 unfolding printed_input printed_output voids between middle basin hole island lagoon lake one_where pools pool_numbers bank opened_bank road
     cut eastward corners corners_read corners_written number_and_place culverts_in write_in lists_in code_amid shape_in gauged basin_codes
-    opened_codes eastward_codes streams crews_after traced standing collected_in counts_after twice hand_in_answer run_in
+    opened_codes eastward_codes streams crews_after traced standing collected_in hand_in_answer run_in
 known_ground =
     -- P1: the printed example, from text to text
     numbers (program_text printed_input) printed_output
@@ -465,32 +456,20 @@ known_ground =
     ∷ numbers (number_and_place (ending_check (grid_of 0 0) (0 ∷ []) [])) (5 ∷ 0 ∷ [])
     ∷ numbers (number_and_place (ending_check (grid_of 3 4001) (15 ∷ 15 ∷ []) [])) (6 ∷ 0 ∷ [])
     -- crews: a trace of two cells and one of a cell. Crew 31's turn is the 32nd, and crew 0 finishes at its second, the 33rd
-    ∷ numbers (standing (crews_after (traced 0 0))) (0 ∷ 1 ∷ 3 ∷ 1 ∷ 0 ∷ [])
-    ∷ numbers (standing (crews_after (traced 30 1))) (1 ∷ 2 ∷ 3 ∷ 1 ∷ 31 ∷ [])
-    ∷ numbers (standing (crews_after (traced 31 1))) (1 ∷ 2 ∷ 3 ∷ 1 ∷ 0 ∷ [])
-    ∷ numbers (standing (crews_after (traced 31 2))) (1 ∷ 2 ∷ 3 ∷ 1 ∷ 1 ∷ [])
-    ∷ numbers (standing (crews_after (traced 31 40))) (1 ∷ 2 ∷ 3 ∷ 1 ∷ 7 ∷ [])
-    ∷ numbers (collected_in (crews_after (traced 31 1)) 0) (0 ∷ 0 ∷ 1 ∷ 0 ∷ 0 ∷ [])
-    ∷ numbers (collected_in (crews_after (traced 31 1)) 31) (0 ∷ 0 ∷ 2 ∷ 3 ∷ 1 ∷ [])
-    ∷ numbers (collected_in (crews_after (traced 31 2)) 0) (0 ∷ 0 ∷ 2 ∷ 1 ∷ 2 ∷ [])
-    ∷ numbers (collected_in (crews_after (traced 31 2)) 1) (0 ∷ 0 ∷ 0 ∷ 0 ∷ 0 ∷ [])
-    ∷ numbers (collected_in (crews_after (traced 31 2)) 32) (21 ∷ 0 ∷ 0 ∷ 0 ∷ 0 ∷ [])
-    ∷ numbers (collected_in (crews_after (hand_in 16 0 0 ∷ run 16 33 ∷ collect 0 ∷ [])) 0) (0 ∷ 0 ∷ 0 ∷ 0 ∷ 0 ∷ [])
-    ∷ numbers (collected_in (crews_after (hand_in 16 0 0 ∷ run 16 32 ∷ collect 0 ∷ [])) 0) (0 ∷ 0 ∷ 1 ∷ 0 ∷ 0 ∷ [])
-    -- a trace's number of cells stays at the largest number: crew 0 on its way from cell 0
-    ∷ numbers (standing (after_all (grid_of 1 4) streams (set (set zeros 0 1) 65 largest) (run 16 33 ∷ [])))
-    (1 ∷ largest ∷ 0 ∷ 0 ∷ 1 ∷ [])
-    -- each crew's own count: nothing too early or for no trace, then the cells of its route; those of crew 0's two routes; the largest
-    -- number where the sum does not fit
-    ∷ numbers (counts_after 5 (traced 31 1 ++ collect 0 ∷ collect 1 ∷ collect 32 ∷ [])) (5 ∷ 5 ∷ 5 ∷ 5 ∷ [])
-    ∷ numbers (counts_after 5 (traced 31 1 ++ collect 0 ∷ collect 31 ∷ [])) (5 ∷ 5 ∷ 6 ∷ 5 ∷ [])
-    ∷ numbers (counts_after 0 (traced 31 2 ++ collect 0 ∷ collect 31 ∷ collect 31 ∷ [])) (2 ∷ 0 ∷ 1 ∷ 0 ∷ [])
-    ∷ numbers (counts_after 0 twice) (3 ∷ 0 ∷ 0 ∷ 0 ∷ [])
-    ∷ numbers (collects_from_all (grid_of 1 4) streams 0 zeros 9 twice) (0 ∷ 1 ∷ [])
-    ∷ numbers (route_cells (grid_of 1 4) streams (0 ∷ 1 ∷ []) ∷ []) (3 ∷ [])
-    ∷ numbers (count_after_all (grid_of 1 4) streams 0 zeros 18446744073709551611 twice ∷ []) (18446744073709551614 ∷ [])
-    ∷ numbers (count_after_all (grid_of 1 4) streams 0 zeros 18446744073709551612 twice ∷ []) (largest ∷ [])
-    ∷ numbers (count_after_all (grid_of 1 4) streams 0 zeros 18446744073709551613 twice ∷ []) (largest ∷ [])
+    ∷ numbers (standing (crews_after (traced 0 0))) (0 ∷ 3 ∷ 0 ∷ 0 ∷ [])
+    ∷ numbers (standing (crews_after (traced 30 1))) (1 ∷ 3 ∷ 31 ∷ 1 ∷ [])
+    ∷ numbers (standing (crews_after (traced 31 1))) (1 ∷ 3 ∷ 0 ∷ 2 ∷ [])
+    ∷ numbers (standing (crews_after (traced 31 2))) (1 ∷ 3 ∷ 1 ∷ 3 ∷ [])
+    ∷ numbers (standing (crews_after (traced 31 40))) (1 ∷ 3 ∷ 7 ∷ 3 ∷ [])
+    ∷ numbers (collected_in (crews_after (traced 31 1)) 0) (0 ∷ 0 ∷ 1 ∷ 0 ∷ [])
+    ∷ numbers (collected_in (crews_after (traced 31 1)) 31) (0 ∷ 0 ∷ 2 ∷ 3 ∷ [])
+    ∷ numbers (collected_in (crews_after (traced 31 2)) 0) (0 ∷ 0 ∷ 2 ∷ 1 ∷ [])
+    ∷ numbers (collected_in (crews_after (traced 31 2)) 1) (0 ∷ 0 ∷ 0 ∷ 0 ∷ [])
+    ∷ numbers (collected_in (crews_after (traced 31 2)) 32) (21 ∷ 0 ∷ 0 ∷ 0 ∷ [])
+    ∷ numbers (collected_in (crews_after (hand_in 16 0 0 ∷ run 16 33 ∷ collect 0 ∷ [])) 0) (0 ∷ 0 ∷ 0 ∷ 0 ∷ [])
+    ∷ numbers (collected_in (crews_after (hand_in 16 0 0 ∷ run 16 32 ∷ collect 0 ∷ [])) 0) (0 ∷ 0 ∷ 1 ∷ 0 ∷ [])
+    -- the total stays at the largest number
+    ∷ numbers (total_of (after_all (grid_of 1 4) streams (set zeros 65 largest) (traced 32 32)) ∷ []) (largest ∷ [])
     -- 9, 11 and 12 before 21 to 23; 21 before 22, finished or not, before 23; a void and what is off the sheet get 23
     ∷ numbers (hand_in_answer 16 1 3 zeros) (0 ∷ 0 ∷ [])
     ∷ numbers (hand_in_answer 15 32 2 zeros) (9 ∷ 0 ∷ [])

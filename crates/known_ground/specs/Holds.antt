@@ -19,9 +19,9 @@ use Rattle.grid.specs.Checks.{ask_work, ask_reach, ask_codes}
 use Rattle.grid.specs.Checks.{ask_description, ask_entries, fill_check, directions_check, codes_check, drain_check, ponds_check, culverts_check}
 use Rattle.grid.specs.Checks.{watersheds_check}
 use Rattle.grid.specs.Endings.{are_neighbours, is_stray, first_stray, ask_list, ending_check, shared_length, shared_ending}
-use Rattle.grid.specs.Crews.{is_on_way, is_finished, has_trace, capped_sum, moved_to, stepped, turn_of, turn, turns, ask_trace, hand_in_check}
-use Rattle.grid.specs.Crews.{handed_in, first_lost, ask_lost, run_check, collected, freed, tallied}
-use Rattle.grid.specs.Operations.{after, after_all, hands_in, count_after, count_after_all, collects_from, collects_from_all, route_cells}
+use Rattle.grid.specs.Crews.{is_on_way, is_finished, has_trace, counted, stepped, turn_of, turn, turns, ask_trace, hand_in_check, handed_in}
+use Rattle.grid.specs.Crews.{first_lost, ask_lost, run_check, collected, freed}
+use Rattle.grid.specs.Operations.{after, after_all}
 use Rattle.grid.specs.Frames.{hex_value, is_text_byte, number4, text_grid, ends_line, is_shaped, first_bad_byte, read_check, from_twos, to_twos}
 use Rattle.grid.specs.Frames.{text_sheet, upper_digit, hex_text, sheet_text, header_text, elevation_text, result_text, refusal_text, drain_text}
 use Rattle.grid.specs.Frames.{program_text}
@@ -41,7 +41,6 @@ unfolding all_hold known_ground table any_below sum_below count_below first_belo
     fill_check directions_check codes_check drain_check ponds_check ask_entries culverts_check watersheds_check are_neighbours is_stray first_stray
     ask_list ending_check shared_length shared_ending hex_value is_text_byte number4 text_grid ends_line
     is_shaped first_bad_byte read_check from_twos to_twos text_sheet upper_digit hex_text sheet_text header_text elevation_text result_text
-    refusal_text drain_text program_text write_check raised is_on_way is_finished has_trace capped_sum moved_to stepped turn_of turn turns ask_trace
-    hand_in_check handed_in first_lost ask_lost run_check collected freed tallied after after_all hands_in count_after count_after_all collects_from
-    collects_from_all route_cells
+    refusal_text drain_text program_text write_check raised is_on_way is_finished has_trace counted stepped turn_of turn turns ask_trace hand_in_check
+    handed_in first_lost ask_lost run_check collected freed after after_all
 known_ground_holds = refl

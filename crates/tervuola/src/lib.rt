@@ -6,7 +6,7 @@ ghost use Rattle.grid.specs.Promises.{CollectPromise, CountsPromise, CulvertsPro
 ghost use Rattle.grid.specs.Promises.{HandInPromise, LabelsPromise, ListsPromise, PartPromise, PondsPromise, PourPointsPromise};
 ghost use Rattle.grid.specs.Promises.{ReadPromise, RunPromise, StartsPromise, WatershedsPromise, WritePromise};
 
-use grid::{Answer, Collected, Counted, Dimensions, Grid, Located, Part, Tally};
+use grid::{Answer, Collected, Counted, Dimensions, Grid, Located, Part};
 
 // Elevations to the filled sheet.
 #[unsafe(no_mangle)]
@@ -316,7 +316,7 @@ pub extern "C" fn tervuola_hand_in(
     codes: &[u8],
     crew: u32,
     cell: u32,
-    crews: &mut [u64; 97],
+    crews: &mut [u64; 66],
     work: &mut [u32],
 ) -> Answer
     ensures { HandInPromise (grid_of rows cols) codes.now crew cell crews.old crews.new
@@ -339,7 +339,7 @@ pub extern "C" fn tervuola_run(
     cols: u32,
     codes: &[u8],
     turns: u16,
-    crews: &mut [u64; 97],
+    crews: &mut [u64; 66],
     work: &mut [u32],
 ) -> Answer
     ensures { RunPromise (grid_of rows cols) codes.now turns crews.old crews.new work.old
@@ -355,17 +355,12 @@ pub extern "C" fn tervuola_run(
     tracing::run(g, codes, turns, crews, work)
 }
 
-// A crew asks for its trace, and lends its own count: what the trace stood on is added to it, and nothing where none is collected. This is
-// the one function over a count that is lent; what it calls knows the count as a number.
+// A crew asks for its trace.
 #[unsafe(no_mangle)]
-pub extern "C" fn tervuola_collect(crew: u32, crews: &mut [u64; 97], tally: &mut Tally) -> Collected
-    ensures { CollectPromise crew crews.old crews.new tally.old tally.new result }
+pub extern "C" fn tervuola_collect(crew: u32, crews: &mut [u64; 66]) -> Collected
+    ensures { CollectPromise crew crews.old crews.new result }
 {
-    let found = tracing::collect_trace(crews, crew);
-    let cells = found.cells;
-    let sum = sums::capped(tally.cells, cells);
-    tally.cells = sum;
-    found
+    tracing::collect(crew, crews)
 }
 
 // A text frame to rows, columns and elevations.

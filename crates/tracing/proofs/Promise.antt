@@ -1,17 +1,17 @@
 -- From the answers to the questions to the promises of `hand_in` and `run`: w₀ and w₁ are the work buffer, s the state at entry.
 use mathlib.Core.Path.{◌≡◌, refl, sym, ◌∙◌, ap, subst}
-use mathlib.Core.Bool.{not}
+use mathlib.Core.Bool.{Bool, true, false, not}
 use mathlib.Core.List.{List, [], ◌∷◌}
 use Prim.Native.Nat.{ℕ, ◌≤◌, ◌<◌}
 use native.Mathlib.Omega.{arith}
-use lib.Dec.{ltb}
+use lib.Dec.{eqb, ltb}
 use lib.ListN.{length}
 use borrow.Author.Tests.{eq-eqb, ne_eqb, ltb-true}
 use Rattle.grid.specs.declared.Grid.{Grid}
 use Rattle.grid.specs.declared.Answer.{Answer}
 use Rattle.grid.specs.Sheet.{size}
 use Rattle.grid.specs.Routes.{has_code, first_bad_code, first_endless}
-use Rattle.grid.specs.Checks.{accepted, refusal, ask_sheets, ask_work, ask_codes}
+use Rattle.grid.specs.Checks.{accepted, refusal, ask, ask_sheets, ask_work, ask_codes}
 use Rattle.grid.specs.Crews.{has_trace, ask_trace, hand_in_check, handed_in, first_lost, ask_lost, run_check, turns}
 use Rattle.grid.specs.Promises.{result_of, WorkBuffer, HandInPromise, RunPromise}
 use Rattle.grid_laws.proofs.Tests.{cond_true, cond_false}

@@ -4,23 +4,17 @@ use mathlib.Core.Bool.{Bool, true, false, not, cond, ◌&&◌, ◌||◌}
 use mathlib.Core.List.{List}
 use Prim.Native.Nat.{ℕ, ◌+◌, ◌≤◌, ◌<◌}
 use native.Mathlib.Omega.{arith}
-use lib.Dec.{eqb}
+use lib.Dec.{eqb, ltb}
 use lib.ListN.{set}
 use borrow.Author.Tests.{eq-eqb, ne_eqb, lt-ltb, le-ltb}
 use Rattle.grid.specs.declared.Answer.{Answer}
-use Rattle.grid.specs.declared.Collected.{Collected}
 use Rattle.grid.specs.Routes.{has_code}
 use Rattle.grid.specs.Checks.{refusal}
-use Rattle.grid.specs.Crews.{no_trace, waiting, finished, status_of, stands_on, cells_of, is_on_way, is_finished, has_trace, ask_trace, handed_in}
-use Rattle.grid.specs.Crews.{first_lost, collected, freed}
-use Rattle.grid_laws.proofs.Tests.{cond_true, cond_false, and_false_left, or_left, not_of_true, not_of_false}
+use Rattle.grid.specs.Crews.{no_trace, waiting, finished, status_of, stands_on, is_on_way, is_finished, has_trace, ask_trace, handed_in, first_lost}
+use Rattle.grid.specs.Crews.{collected, freed}
+use Rattle.grid_laws.proofs.Tests.{cond_true, cond_false, and_true, and_false_left, and_false_right, or_left, not_of_true, not_of_false}
 use Rattle.grid_laws.proofs.Below.{first_is, first_none}
-use Rattle.crew_laws.proofs.Changes.{freed_off, freed_early, freed_done}
 use Rattle.crew_laws.proofs.Keeps.{is_lost}
-
--- the answer to a collection of a trace that is not finished
-abbrev early : ℕ → Collected
-early status = record { number = 0; place = 0; status = status; cell = 0; cells = 0 }
 
 module _ (s : List ℕ) (k : ℕ) where
   -- ---- a trace
@@ -34,42 +28,46 @@ module _ (s : List ℕ) (k : ℕ) where
 
   -- ---- a collection
   module _ (small : k < 32) where
-    pub found_finished : (cell cells : ℕ) → status_of s k ≡ finished → cell ≡ stands_on s k → cells ≡ cells_of s k →
-        record { number = 0; place = 0; status = finished; cell = cell; cells = cells } ≡ collected s k
+    pub found_finished : (cell : ℕ) → status_of s k ≡ finished → cell ≡ stands_on s k →
+        record { number = 0; place = 0; status = finished; cell = cell } ≡ collected s k
     unfolding collected is_finished
-    found_finished cell cells e q n =
-        ap (λ (x : ℕ). record { number = 0; place = 0; status = finished; cell = x; cells = cells }) q
-        ∙ ap (λ (x : ℕ). record { number = 0; place = 0; status = finished; cell = stands_on s k; cells = x }) n
+    found_finished cell e q =
+        ap (λ (x : ℕ). record { number = 0; place = 0; status = finished; cell = x }) q
         ∙ sym (cond_true _ _ (lt-ltb k 32 small) ∙ cond_true _ _ (eq-eqb (status_of s k) finished e))
 
     module _ (f : status_of s k ≡ finished → ⊥) where
-      found_early : collected s k ≡ early (cond (is_on_way s k) waiting no_trace)
+      found_early : collected s k ≡ record { number = 0; place = 0; status = cond (is_on_way s k) waiting no_trace; cell = 0 }
       unfolding collected is_finished
       found_early = cond_true _ _ (lt-ltb k 32 small) ∙ cond_false _ _ (ne_eqb (status_of s k) finished f)
 
-      pub found_waiting : status_of s k ≡ waiting → early waiting ≡ collected s k
+      pub found_waiting : status_of s k ≡ waiting → record { number = 0; place = 0; status = waiting; cell = 0 } ≡ collected s k
       unfolding is_on_way
-      found_waiting e = sym (found_early ∙ ap early (cond_true _ _ (eq-eqb (status_of s k) waiting e)))
+      found_waiting e =
+          sym (found_early
+          ∙ ap (λ (x : ℕ). record { number = 0; place = 0; status = x; cell = 0 }) (cond_true _ _ (eq-eqb (status_of s k) waiting e)))
 
-      pub found_none : (status_of s k ≡ waiting → ⊥) → early no_trace ≡ collected s k
+      pub found_none : (status_of s k ≡ waiting → ⊥) → record { number = 0; place = 0; status = no_trace; cell = 0 } ≡ collected s k
       unfolding is_on_way
-      found_none n = sym (found_early ∙ ap early (cond_false _ _ (ne_eqb (status_of s k) waiting n)))
+      found_none n =
+          sym (found_early
+          ∙ ap (λ (x : ℕ). record { number = 0; place = 0; status = x; cell = 0 }) (cond_false _ _ (ne_eqb (status_of s k) waiting n)))
 
       pub not_freed : s ≡ freed s k
-      unfolding is_finished
-      not_freed = sym (freed_early s k (ne_eqb (status_of s k) finished f))
+      unfolding freed is_finished
+      not_freed = sym (cond_false _ _ (and_false_right (ltb k 32) (ne_eqb (status_of s k) finished f)))
 
     pub is_freed : status_of s k ≡ finished → set s k no_trace ≡ freed s k
-    unfolding is_finished
-    is_freed e = sym (freed_done s k small (eq-eqb (status_of s k) finished e))
+    unfolding freed is_finished
+    is_freed e = sym (cond_true _ _ (and_true (lt-ltb k 32 small) (eq-eqb (status_of s k) finished e)))
 
   module _ (large : 32 ≤ k) where
-    pub no_crew : record { number = 21; place = 0; status = no_trace; cell = 0; cells = 0 } ≡ collected s k
+    pub no_crew : record { number = 21; place = 0; status = no_trace; cell = 0 } ≡ collected s k
     unfolding collected
     no_crew = sym (cond_false _ _ (le-ltb k 32 large))
 
     pub no_crew_freed : s ≡ freed s k
-    no_crew_freed = sym (freed_off s k (le-ltb k 32 large))
+    unfolding freed
+    no_crew_freed = sym (cond_false _ _ (and_false_left (is_finished s k) (le-ltb k 32 large)))
 
   -- ---- 21, 22 and 23 of a hand-in
   module _ (codes : List ℕ) (cell : ℕ) (later : Answer) where
@@ -91,7 +89,7 @@ module _ (s : List ℕ) (k : ℕ) where
         unfolding ask_trace
         answer_yes t = sym (cond_true _ _ (lt-ltb k 32 (omega arith)) ∙ cond_true _ _ (not_of_false free) ∙ cond_true _ _ t)
 
-pub stored : (s : List ℕ) (k cell : ℕ) → set (set (set s (32 + k) cell) (65 + k) 1) k waiting ≡ handed_in s k cell
+pub stored : (s : List ℕ) (k cell : ℕ) → set (set s (32 + k) cell) k waiting ≡ handed_in s k cell
 unfolding handed_in
 stored s k cell = refl
 

@@ -1,18 +1,17 @@
-// The calls `hand_in` and `run`, and the collection but for the count (document 02, Wishes 8 and 12): "Thirty-two crews, numbered 0 to 31,
-// hand in a cell each and later collect the outlet it drains to." The state is an array that the caller lends, and every content of it is
-// a state: no call relies on another one having made it. The questions come first, and nothing is stored before the last of them is
-// answered.
+// The calls `hand_in`, `run` and `collect` (document 02, Wish 8): "Thirty-two crews, numbered 0 to 31, hand in a cell each and later
+// collect the outlet it drains to." The state is an array that the caller lends, and every content of it is a state: no call relies on
+// another one having made it. The questions come first, and nothing is stored before the last of them is answered.
 ghost use Rattle.std.specs.Prelude.{◌≡◌, not, ◌&&◌, ◌<◌};
 ghost use Rattle.grid.specs.Routes.{has_code};
 ghost use Rattle.grid.specs.Checks.{accepted};
 ghost use Rattle.grid.specs.Crews.{is_on_way, has_trace, stands_on, ask_trace, handed_in, first_lost, collected, freed};
-ghost use Rattle.grid.specs.Promises.{HandInPromise, RunPromise, TracePromise};
+ghost use Rattle.grid.specs.Promises.{HandInPromise, RunPromise, CollectPromise};
 ghost use Rattle.route_laws.specs.Receivers.{AllCodes};
 
 use grid::{Answer, Collected, Grid};
 
 // Whether crew `k` has a trace that is not yet collected, finished or not.
-fn has_trace(crews: &[u64; 97], k: usize) -> bool
+fn has_trace(crews: &[u64; 66], k: usize) -> bool
     requires { k < 32 }
     ensures { result ≡ has_trace crews.now k }
 {
@@ -23,7 +22,7 @@ fn has_trace(crews: &[u64; 97], k: usize) -> bool
 }
 
 // "21 for a crew above 31, 22 if that crew's trace is not yet collected, 23 for a cell outside the sheet or with code 0".
-fn ask_trace(codes: &[u8], crew: usize, cell: usize, crews: &[u64; 97]) -> Answer
+fn ask_trace(codes: &[u8], crew: usize, cell: usize, crews: &[u64; 66]) -> Answer
     requires { AllCodes codes.now }
     ensures { result ≡ ask_trace codes.now crew cell crews.now accepted }
 {
@@ -51,13 +50,12 @@ fn ask_trace(codes: &[u8], crew: usize, cell: usize, crews: &[u64; 97]) -> Answe
     }
 }
 
-// Puts the trace of crew `k` on a cell, its first, on its way.
-fn put_trace(crews: &mut [u64; 97], k: usize, cell: u32)
+// Puts the trace of crew `k` on a cell, on its way.
+fn put_trace(crews: &mut [u64; 66], k: usize, cell: u32)
     requires { k < 32 }
     ensures { crews.new ≡ handed_in crews.old k cell }
 {
     crews[32 + k] = cell as u64;
-    crews[65 + k] = 1;
     crews[k] = 1;
 }
 
@@ -67,7 +65,7 @@ pub fn hand_in(
     codes: &[u8],
     crew: u32,
     cell: u32,
-    crews: &mut [u64; 97],
+    crews: &mut [u64; 66],
     work: &mut [u32],
 ) -> Answer
     ensures { HandInPromise g codes.now crew cell crews.old crews.new work.old
@@ -86,7 +84,7 @@ pub fn hand_in(
 }
 
 // Whether the trace of crew `k` is on its way and stands outside the sheet or on a cell with code 0.
-fn is_lost(codes: &[u8], crews: &[u64; 97], k: usize) -> bool
+fn is_lost(codes: &[u8], crews: &[u64; 66], k: usize) -> bool
     requires all_codes { AllCodes codes.now }
     requires k_bound { k < 32 }
     ensures { result
@@ -95,12 +93,12 @@ fn is_lost(codes: &[u8], crews: &[u64; 97], k: usize) -> bool
     if crews[k] != 1 {
         return false;
     }
-    let cell = turning::stands_on(crews, k);
+    let cell = turning::cell_of(crews, k);
     !turning::has_code(codes, cell)
 }
 
 // "23 if an unfinished trace stands on such a cell, place the lowest such crew": that crew, or 32.
-fn first_lost(codes: &[u8], crews: &[u64; 97]) -> usize
+fn first_lost(codes: &[u8], crews: &[u64; 66]) -> usize
     requires { AllCodes codes.now }
     ensures { result ≡ first_lost codes.now crews.now }
 {
@@ -115,7 +113,7 @@ fn first_lost(codes: &[u8], crews: &[u64; 97]) -> usize
 }
 
 // Takes `n` turns. 23 is asked once, before the first of them.
-pub fn run(g: Grid, codes: &[u8], n: u16, crews: &mut [u64; 97], work: &mut [u32]) -> Answer
+pub fn run(g: Grid, codes: &[u8], n: u16, crews: &mut [u64; 66], work: &mut [u32]) -> Answer
     ensures { RunPromise g codes.now n crews.old crews.new work.old work.new
         result }
 {
@@ -134,43 +132,38 @@ pub fn run(g: Grid, codes: &[u8], n: u16, crews: &mut [u64; 97], work: &mut [u32
     answer
 }
 
-// The answer where no finished trace is collected.
-fn without_trace(number: u32, status: u32) -> Collected
-    ensures { result ≡ record { number = number; place = 0; status = status; cell = 0; cells = 0 } }
-{
-    Collected {
-        number: number,
-        place: 0,
-        status: status,
-        cell: 0,
-        cells: 0,
-    }
-}
-
 // What is answered to crew `k`.
-fn answer_to(crews: &[u64; 97], k: usize) -> Collected
+fn answer_to(crews: &[u64; 66], k: usize) -> Collected
     requires { k < 32 }
     ensures { result ≡ collected crews.now k }
 {
     if crews[k] == 2 {
-        let cell = turning::stands_on(crews, k);
-        let cells = turning::cells_of(crews, k);
+        let cell = turning::cell_of(crews, k);
         return Collected {
             number: 0,
             place: 0,
             status: 2,
             cell: cell as u32,
-            cells: cells,
         };
     }
     if crews[k] == 1 {
-        return without_trace(0, 1);
+        return Collected {
+            number: 0,
+            place: 0,
+            status: 1,
+            cell: 0,
+        };
     }
-    without_trace(0, 0)
+    Collected {
+        number: 0,
+        place: 0,
+        status: 0,
+        cell: 0,
+    }
 }
 
 // Frees crew `k`, if its trace is finished.
-fn free(crews: &mut [u64; 97], k: usize)
+fn free(crews: &mut [u64; 66], k: usize)
     requires { k < 32 }
     ensures { crews.new ≡ freed crews.old k }
 {
@@ -180,12 +173,17 @@ fn free(crews: &mut [u64; 97], k: usize)
     crews[k] = 0;
 }
 
-// A crew asks for its trace. What is found is added to the count that it lends by `tervuola_collect`.
-pub fn collect_trace(crews: &mut [u64; 97], crew: u32) -> Collected
-    ensures { TracePromise crew crews.old crews.new result }
+// A crew asks for its trace.
+pub fn collect(crew: u32, crews: &mut [u64; 66]) -> Collected
+    ensures { CollectPromise crew crews.old crews.new result }
 {
     if crew > 31 {
-        return without_trace(21, 0);
+        return Collected {
+            number: 21,
+            place: 0,
+            status: 0,
+            cell: 0,
+        };
     }
     let k = crew as usize;
     let answer = answer_to(crews, k);

@@ -11,7 +11,7 @@ use borrow.Author.Tests.{ltb-true, eq-eqb, ne_eqb, eqb-true, eqb-false}
 use Rattle.grid.specs.declared.Grid.{Grid}
 use Rattle.grid.specs.Sheet.{neighbour}
 use Rattle.grid.specs.Routes.{position_at, has_code, receiver}
-use Rattle.grid.specs.Crews.{waiting, finished, status_of, stands_on, next_crew, is_on_way, moved_to, stepped, turn_of, turn, turns}
+use Rattle.grid.specs.Crews.{waiting, finished, status_of, stands_on, next_crew, is_on_way, counted, stepped, turn_of, turn, turns}
 use Rattle.grid_laws.proofs.Tests.{test, cond_true, cond_false, not_of_true, not_of_false}
 use Rattle.grid_laws.proofs.Neighbours.{no_code}
 use Rattle.route_laws.specs.Receivers.{AllCodes}
@@ -31,9 +31,9 @@ module _ (g : Grid) (codes : List ℕ) (on : OnSheet g codes) where
   ended s k e = sym (cond_false _ _ e)
 
   pub moved_on : (s : List ℕ) (k next : ℕ) → next ≡ receiver g codes (stands_on s k) → has_code codes next ≡ true →
-      moved_to s k next ≡ stepped g codes s k
+      set s (32 + k) next ≡ stepped g codes s k
   unfolding stepped
-  moved_on s k next e f = ap (moved_to s k) e ∙ sym (cond_true _ _ (sym (ap (has_code codes) e) ∙ f))
+  moved_on s k next e f = ap (λ (x : ℕ). set s (32 + k) x) e ∙ sym (cond_true _ _ (sym (ap (has_code codes) e) ∙ f))
 
 -- ---- a cell's code
 
@@ -52,7 +52,7 @@ module _ (g : Grid) (codes s : List ℕ) where
   unfolding turn_of is_on_way
   idle k f = sym (cond_false _ _ (ne_eqb (status_of s k) waiting f))
 
-  pub busy : (k : ℕ) → status_of s k ≡ waiting → stepped g codes s k ≡ turn_of g codes s k
+  pub busy : (k : ℕ) → status_of s k ≡ waiting → counted (stepped g codes s k) ≡ turn_of g codes s k
   unfolding turn_of is_on_way
   busy k e = sym (cond_true _ _ (eq-eqb (status_of s k) waiting e))
 

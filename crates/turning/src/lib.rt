@@ -1,10 +1,10 @@
-// Turns of the crews' traces (document 02, Wishes 8 and 12), on a sheet of codes that is accepted. "A turn moves that crew's trace one cell
-// down, or finishes it at its last cell; with no trace, or a finished one, it does nothing." The state is the array that the caller lends,
-// and each function stores what the definition of its step says. An array that is lent has no length that a proof could use, so that the
-// contracts are equations of lists of any length.
-ghost use Rattle.std.specs.Prelude.{◌≡◌, true, ◌<◌, set};
+// Turns of the crews' traces (document 02, Wish 8), on a sheet of codes that is accepted. "A turn moves that crew's trace one cell down, or
+// finishes it at its last cell; with no trace, or a finished one, it does nothing." The state is the array that the caller lends, and each
+// function stores what the definition of its step says. An array that is lent has no length that a proof could use, so that the contracts
+// are equations of lists of any length.
+ghost use Rattle.std.specs.Prelude.{◌≡◌, true, min, ◌+◌, ◌<◌, set};
 ghost use Rattle.grid.specs.Routes.{has_code, receiver};
-ghost use Rattle.grid.specs.Crews.{finished, stands_on, cells_of, moved_to, stepped, turn_of, turn, turns};
+ghost use Rattle.grid.specs.Crews.{finished, stands_on, largest, counted, stepped, turn_of, turn, turns};
 ghost use Rattle.route_laws.specs.Receivers.{AllCodes};
 ghost use Rattle.crew_laws.specs.Standing.{Standing, OnSheet};
 
@@ -33,34 +33,43 @@ fn next_cell(g: Grid, codes: &[u8], cell: usize) -> usize
     cells::neighbour(g, cell, p)
 }
 
-// The number of cells that the trace of crew `k` has stood on.
-pub fn cells_of(crews: &[u64; 97], k: usize) -> u64
-    requires { k < 32 }
-    ensures { result ≡ cells_of crews.now k }
+// One more, or the largest number.
+fn one_more(x: u64) -> u64
+    ensures { result ≡ min (x + 1) largest }
 {
-    crews[65 + k]
+    if x == 18446744073709551615 {
+        return x;
+    }
+    x + 1
+}
+
+// The turn is counted in the total.
+fn count_turn(crews: &mut [u64; 66])
+    ensures { crews.new ≡ counted crews.old }
+{
+    crews[65] = one_more(crews[65]);
 }
 
 // The trace of crew `k` is finished where it stands.
-fn finish(crews: &mut [u64; 97], k: usize)
+fn finish(crews: &mut [u64; 66], k: usize)
     requires { k < 32 }
-    ensures { crews.new ≡ set crews.old k finished }
+    ensures { crews.new ≡ counted (set crews.old k finished) }
 {
     crews[k] = 2;
+    count_turn(crews);
 }
 
-// The trace of crew `k` stands on one cell more, `next`.
-fn move_to(crews: &mut [u64; 97], k: usize, next: usize)
+// It stands on the next cell.
+fn move_to(crews: &mut [u64; 66], k: usize, next: usize)
     requires { k < 32 }
-    ensures { crews.new ≡ moved_to crews.old k next }
+    ensures { crews.new ≡ counted (set crews.old (32 + k) next) }
 {
-    let cells = cells_of(crews, k);
     crews[32 + k] = next as u64;
-    crews[65 + k] = sums::capped(cells, 1);
+    count_turn(crews);
 }
 
 // The cell that the trace of crew `k` stands on.
-pub fn stands_on(crews: &[u64; 97], k: usize) -> usize
+pub fn cell_of(crews: &[u64; 66], k: usize) -> usize
     requires { k < 32 }
     ensures { result ≡ stands_on crews.now k }
 {
@@ -68,13 +77,13 @@ pub fn stands_on(crews: &[u64; 97], k: usize) -> usize
 }
 
 // The turn of a crew whose trace is on its way.
-fn step(g: Grid, codes: &[u8], crews: &mut [u64; 97], k: usize)
+fn step(g: Grid, codes: &[u8], crews: &mut [u64; 66], k: usize)
     requires on_sheet { OnSheet g codes.now }
     requires k_bound { k < 32 }
     requires k_value { has_code codes.now (stands_on crews.old k) ≡ true }
-    ensures { crews.new ≡ stepped g codes.now crews.old k }
+    ensures { crews.new ≡ counted (stepped g codes.now crews.old k) }
 {
-    let cell = stands_on(crews, k);
+    let cell = cell_of(crews, k);
     let next = next_cell(g, codes, cell);
     if !has_code(codes, next) {
         finish(crews, k);
@@ -84,7 +93,7 @@ fn step(g: Grid, codes: &[u8], crews: &mut [u64; 97], k: usize)
 }
 
 // The turn of crew `k`: nothing, unless its trace is on its way.
-fn turn_of(g: Grid, codes: &[u8], crews: &mut [u64; 97], k: usize)
+fn turn_of(g: Grid, codes: &[u8], crews: &mut [u64; 66], k: usize)
     requires on_sheet { OnSheet g codes.now }
     requires k_bound { k < 32 }
     requires standing { Standing codes.now crews.old }
@@ -97,7 +106,7 @@ fn turn_of(g: Grid, codes: &[u8], crews: &mut [u64; 97], k: usize)
 }
 
 // The turn of the crew whose turn it is, and on to the next.
-fn take_turn(g: Grid, codes: &[u8], crews: &mut [u64; 97])
+fn take_turn(g: Grid, codes: &[u8], crews: &mut [u64; 66])
     requires on_sheet { OnSheet g codes.now }
     requires standing { Standing codes.now crews.old }
     ensures { crews.new ≡ turn g codes.now crews.old }
@@ -108,7 +117,7 @@ fn take_turn(g: Grid, codes: &[u8], crews: &mut [u64; 97])
 }
 
 // `n` turns.
-pub fn take_turns(g: Grid, codes: &[u8], crews: &mut [u64; 97], n: u16)
+pub fn take_turns(g: Grid, codes: &[u8], crews: &mut [u64; 66], n: u16)
     requires on_sheet { OnSheet g codes.now }
     requires standing { Standing codes.now crews.old }
     ensures { crews.new ≡ turns g codes.now n crews.old }

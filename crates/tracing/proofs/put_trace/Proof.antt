@@ -1,4 +1,4 @@
--- The three stores of the definition.
+-- The two stores of the definition.
 use Rattle.tracing.proofs.Traces.{stored}
 use borrow.Author.Rules.{rules}
 use Rattle.tracing.proofs.put_trace.Statement.{statement}
@@ -13,20 +13,11 @@ mul-crews c = search rules
 element-write-crews : tie.Need-element-write-crews
 element-write-crews c = search rules
 
-add-crews-2 : tie.Need-overflow-add-crews-2
-add-crews-2 c = search rules
-
 mul-crews-2 : tie.Need-overflow-mul-crews-2
 mul-crews-2 c = search rules
 
 element-write-crews-2 : tie.Need-element-write-crews-2
 element-write-crews-2 c = search rules
-
-mul-crews-3 : tie.Need-overflow-mul-crews-3
-mul-crews-3 c = search rules
-
-element-write-crews-3 : tie.Need-element-write-crews-3
-element-write-crews-3 c = search rules
 
 returns : tie.Need-returns
 returns c = stored c.args.crews.now c.args.k c.args.cell
@@ -34,13 +25,4 @@ returns c = stored c.args.crews.now c.args.k c.args.cell
 pub put_trace_spec : {M : Type 1} → statement M
 put_trace_spec =
     tie.close
-    (tie.spec
-    add-crews
-    mul-crews
-    element-write-crews
-    add-crews-2
-    mul-crews-2
-    element-write-crews-2
-    mul-crews-3
-    element-write-crews-3
-    returns)
+    (tie.spec add-crews mul-crews element-write-crews mul-crews-2 element-write-crews-2 returns)

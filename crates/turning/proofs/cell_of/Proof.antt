@@ -1,8 +1,8 @@
 -- The low 32 bits of the crew's second word.
 use mathlib.Core.Path.{refl}
 use borrow.Author.Rules.{rules}
-use Rattle.turning.proofs.stands_on.Statement.{statement}
-use Rattle.turning.proofs.stands_on.Tie as tie
+use Rattle.turning.proofs.cell_of.Statement.{statement}
+use Rattle.turning.proofs.cell_of.Tie as tie
 
 add-result : tie.Need-overflow-add-result
 add-result c = search rules
@@ -16,5 +16,5 @@ element-copy-out-result c = search rules
 returns : tie.Need-returns
 returns c = refl
 
-pub stands_on_spec : {M : Type 1} → statement M
-stands_on_spec = tie.close (tie.spec add-result mul-result element-copy-out-result returns)
+pub cell_of_spec : {M : Type 1} → statement M
+cell_of_spec = tie.close (tie.spec add-result mul-result element-copy-out-result returns)
