@@ -1,0 +1,28 @@
+use native.Mathlib.Omega.{arith}
+use mathlib.Core.Path.{refl}
+use borrow.Author.Rules.{rules}
+use Rattle.grid_laws.proofs.Widths.{wide}
+use Rattle.grid_laws.proofs.Cells.{word_void, word_top}
+use Rattle.cells.proofs.Words.{sum_fits, sum_is, word_small}
+use Rattle.cells.proofs.key.Goals as goal
+
+pub overflow_cast-result : goal.overflow_cast-result
+overflow_cast-result c = wide c.args.e c.ranges.e
+
+pub overflow_sub-result : goal.overflow_sub-result
+overflow_sub-result c = sum_fits c.args.e c.ranges.e
+
+pub overflow_cast-result-3 : goal.overflow_cast-result-3
+overflow_cast-result-3 c =
+    rw (sum_is c.args.e c.ranges.e) (tt, record { fits = omega (arith, word_small c.args.e c.ranges.e.sfits) })
+
+pub returns : goal.returns
+returns c =
+    let e = c.args.e in
+    let h = c.ranges.e.sfits in
+    let the_all = rw (sum_is e c.ranges.e) (refl, (word_small e h, (word_void e h, word_top e h))) in
+    record {
+      value = the_all.0;
+      upper_bound = the_all.1.0;
+      elevation = the_all.1.1;
+    }

@@ -1,0 +1,48 @@
+-- Position by position, as the table of steps has them.
+use mathlib.Core.Path.{refl}
+use Prim.Native.Nat.{◌-◌}
+use native.Mathlib.Omega.{arith}
+use Rattle.cells.specs.Steps.{right_of}
+use Rattle.cells.proofs.Steps.{OffsetsTo, offsets_none, offsets_more, offset_small}
+use Rattle.cells.proofs.offsets.Goals as goal
+
+pub loop-p-init : goal.loop-p-init
+loop-p-init c = offsets_none c.args.cols _ refl
+
+pub row_step-requires : goal.row_step-requires
+row_step-requires c = c.loop-p-test.true
+
+pub overflow_mul-found : goal.overflow_mul-found
+overflow_mul-found c =
+    let a = (offset_small c.args.cols c.loop-p.p c.row_step.result (right_of c.loop-p.p)
+    c.requires c.loop-p-test.true c.row_step.ensures refl).1 in
+    omega arith
+
+pub col_step-requires : goal.col_step-requires
+col_step-requires c = c.loop-p-test.true
+
+pub overflow_add-found : goal.overflow_add-found
+overflow_add-found c =
+    let a = (offset_small c.args.cols c.loop-p.p c.row_step.result c.col_step.result
+    c.requires c.loop-p-test.true c.row_step.ensures c.col_step.ensures).0 in
+    omega arith
+
+pub offset_bounds-found-p : goal.offset_bounds-found-p
+offset_bounds-found-p c = let h = c.loop-p-test.true in omega arith
+
+pub bounds-found-p : goal.bounds-found-p
+bounds-found-p c = c.loop-p-test.true
+
+pub overflow_add-p : goal.overflow_add-p
+overflow_add-p c = let h = c.loop-p-test.true in omega arith
+
+pub loop-p-smaller : goal.loop-p-smaller
+loop-p-smaller c = let h = c.loop-p-test.true in omega arith
+
+pub loop-p-preserved : goal.loop-p-preserved
+loop-p-preserved c =
+    offsets_more c.args.cols c.loop-p.found c.loop-p.p c.row_step.result c.col_step.result c.loop-p-test.true
+    c.loop-p.invariant c.row_step.ensures c.col_step.ensures
+
+pub returns : goal.returns
+returns c = λ p h. let e = c.loop-p-test.false in c.loop-p.invariant.found p (omega arith)

@@ -1,0 +1,31 @@
+-- Each no is the answer of its question; after the last yes there is none.
+use borrow.Author.Rules.{rules}
+use Rattle.receivers.proofs.Codes.{all_codes}
+use Rattle.code_check.proofs.Answers.{answer_11, none_bad, answer_12, answer_yes}
+use Rattle.code_check.proofs.codes_check.Goals as goal
+
+pub returns-then-bad-given : goal.returns-then-bad-given
+returns-then-bad-given c =
+    answer_11 c.args.g c.args.codes.now c.requires.codes_len c.first_bad_code-bad.result c.first_bad_code-bad.ensures c.if-bad-given.true
+
+pub first_endless-endless-requires : goal.first_endless-endless-requires
+first_endless-endless-requires c =
+    let good = none_bad c.args.g c.args.codes.now c.requires.codes_len c.first_bad_code-bad.result c.first_bad_code-bad.ensures c.if-bad-given.false in
+    record {
+      fits = c.requires.fits;
+      codes_len = c.requires.codes_len;
+      g_in_bounds = c.requires.g_in_bounds;
+      all_codes = all_codes c.args.g c.args.codes.now c.requires.codes_len good;
+    }
+
+pub returns-then-endless-given : goal.returns-then-endless-given
+returns-then-endless-given c =
+    answer_12 c.args.g c.args.codes.now c.requires.codes_len
+    (none_bad c.args.g c.args.codes.now c.requires.codes_len c.first_bad_code-bad.result c.first_bad_code-bad.ensures c.if-bad-given.false) c.first_endless-endless.result c.first_endless-endless.ensures
+    c.if-endless-given.true
+
+pub returns : goal.returns
+returns c =
+    answer_yes c.args.g c.args.codes.now c.requires.codes_len
+    (none_bad c.args.g c.args.codes.now c.requires.codes_len c.first_bad_code-bad.result c.first_bad_code-bad.ensures c.if-bad-given.false) c.first_endless-endless.result c.first_endless-endless.ensures
+    c.if-endless-given.false

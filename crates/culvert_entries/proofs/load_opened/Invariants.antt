@@ -1,0 +1,16 @@
+-- The keys of the elevations, and then the first k entries opened.
+use Prim.Native.Nat.{◌-◌}
+use mathlib.Core.Path.{◌≡◌, refl, ◌∙◌}
+use native.Mathlib.Omega.{arith}
+use lib.ListN.{length}
+use borrow.Author.Rules.{rules}
+use Rattle.culvert_laws.proofs.Opened.{all_good}
+use Rattle.culvert_entries.proofs.Loaded.{OpenedIn, opened_none, entry_on, opened_more, opened_all}
+use Rattle.culvert_entries.proofs.load_opened.Given as goal
+
+abbrev pub invariant-loop-k : goal.invariant-loop-k
+invariant-loop-k l =
+    (length l.work ≡ length l.initial.work) × OpenedIn l.elevations l.cells l.levels l.k l.work
+
+abbrev pub decreases-loop-k : goal.decreases-loop-k
+decreases-loop-k l = length l.cells - l.k

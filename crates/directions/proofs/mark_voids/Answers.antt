@@ -1,0 +1,12 @@
+use native.Mathlib.Omega.{arith}
+use borrow.Author.Tests.{not-true}
+use Rattle.fill.proofs.Voids.{full_marked}
+use borrow.Author.Rules.{rules}
+use Rattle.std.proofs.lemmas.Bool.{not_from_false}
+use Rattle.directions.proofs.mark_voids.Goals as goal
+
+pub returns-then-not-has_void : goal.returns-then-not-has_void
+returns-then-not-has_void c =
+    let a = c.args in
+    let len = c.requires.elevations_len in
+    full_marked a.g a.elevations.now (λ x h. c.has_void.ensures (c.if-not-has_void.true) x (omega arith)) _ a.work.now

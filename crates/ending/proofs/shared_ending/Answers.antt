@@ -1,0 +1,29 @@
+-- `ending::shared_ending`: no cell behind a no, and the last cells that are alike behind a yes; both parts end where the first list does.
+use mathlib.Core.Path.{refl, ◌∙◌}
+use Prim.Native.Nat.{◌-◌}
+use native.Mathlib.Omega.{arith}
+use lib.ListN.{length}
+use borrow.Author.Rules.{part_to_end}
+use borrow.Author.Rules.{rules}
+use Rattle.ending_laws.proofs.Longest.{part_is, part_byte, no_part}
+use Rattle.ending.proofs.Promise.{refused_part, accepted_part}
+use Rattle.ending.proofs.shared_ending.Goals as goal
+
+pub returns-then-answer-ne0 : goal.returns-then-answer-ne0
+returns-then-answer-ne0 c =
+    let s = c.args in
+    let l = s.first.now in
+    record {
+      shared = refused_part s.g l s.second.now c.check_lists-answer.result c.check_lists-answer.ensures c.if-answer-ne0.true _ (no_part l);
+      itself = record { block = refl; byte = part_byte l (length l) s.first.ptr.1 (omega arith) };
+    }
+
+pub returns : goal.returns
+returns c =
+    let s = c.args in
+    let l = s.first.now in
+    let part = part_to_end l (length l - c.shared_length-k.result) ∙ part_is l s.second.now c.shared_length-k.result c.shared_length-k.ensures.value in
+    record {
+      shared = accepted_part s.g l s.second.now c.check_lists-answer.result c.check_lists-answer.ensures c.if-answer-ne0.false _ part;
+      itself = record { block = refl; byte = part_byte l (length l - c.shared_length-k.result) s.first.ptr.1 (omega arith) };
+    }

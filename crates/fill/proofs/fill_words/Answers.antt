@@ -1,0 +1,80 @@
+-- Sort, mark the voids, flood, and the first cell that the flood has not come to.
+use mathlib.Core.Path.{◌≡◌, sym, ◌∙◌}
+use mathlib.Core.Bool.{true}
+use Prim.Native.Nat.{ℕ, ◌<◌}
+use native.Mathlib.Omega.{arith}
+use Rattle.grid.specs.Sheet.{size, is_data}
+use Rattle.fill.specs.Words.{sheet_in}
+use Rattle.fill.proofs.Words.{sheet_length}
+use Rattle.fill.proofs.Voids.{kept_voids, spelled_voids, full_reach, ready}
+use Rattle.fill.proofs.Steps.{front_sorted, none_reached, marks_stay, unreached_first, flooded_words}
+use borrow.Author.Rules.{rules}
+use Rattle.fill.proofs.fill_words.Goals as goal
+
+pub mark_voids-voids-requires : goal.mark_voids-voids-requires
+mark_voids-voids-requires c =
+    let a = c.args in
+    let same = c.sort.auto.work in
+    let room = c.requires.g_in_bounds in
+    let voids = kept_voids a.g a.elevations.now a.work.now c.sort.new.work c.sort.ensures.by_index c.requires.same_voids in
+    record {
+      elevations_len = c.requires.elevations_len;
+      g_bound = c.requires.g_bound;
+      cols_bound = c.requires.cols_bound;
+      g_in_bounds = omega arith;
+      sorted = c.sort.ensures.sorted;
+      same_voids = voids;
+    }
+
+pub flood-requires : goal.flood-requires
+flood-requires c =
+    let a = c.args in
+    let room = c.requires.g_in_bounds in
+    let long = c.mark_voids-voids.auto.work ∙ c.sort.auto.work in
+    let R =
+    ready a.g a.elevations.now a.work.now c.sort.new.work c.mark_voids-voids.new.work c.requires.elevations_len c.requires.are_keys c.requires.same_voids
+    c.requires.g_in_bounds c.sort.auto.work c.sort.ensures.sorted c.sort.ensures.by_index c.mark_voids-voids.ensures.marked c.mark_voids-voids.ensures.by_index in
+    let sorted = front_sorted a.g _ a.work.now c.mark_voids-voids.new.work R in
+    let none = none_reached a.g _ a.work.now c.mark_voids-voids.new.work R in
+    record {
+      g_bound = c.requires.g_bound;
+      cols_bound = c.requires.cols_bound;
+      g_bound_2 = omega arith;
+      g_in_bounds = omega arith;
+      sorted = sorted;
+      by_index = none;
+    }
+
+-- every side is open, and no cell is void
+pub returns-then-all_drain : goal.returns-then-all_drain
+returns-then-all_drain c =
+    let a = c.args in
+    let R =
+    ready a.g a.elevations.now a.work.now c.sort.new.work c.mark_voids-voids.new.work c.requires.elevations_len c.requires.are_keys c.requires.same_voids
+    c.requires.g_in_bounds c.sort.auto.work c.sort.ensures.sorted c.sort.ensures.by_index c.mark_voids-voids.ensures.marked c.mark_voids-voids.ensures.by_index in
+    let drain = c.all_drain.ensures c.if-all_drain.true in
+    let sheet = sheet_in (size a.g) a.work.now in
+    let full : (x : ℕ) → x < size a.g → is_data sheet x ≡ true =
+    λ x h. sym (spelled_voids a.g a.elevations.now a.work.now c.requires.elevations_len c.requires.are_keys c.requires.same_voids x)
+    ∙ c.mark_voids-voids.ensures.c_value drain.1 x h in
+    let none = full_reach a.g sheet full drain.0 (sheet_length (size a.g) a.work.now) in
+    record {
+      value = sym none;
+      words = λ _. flooded_words a.g _ a.work.now c.mark_voids-voids.new.work R c.flood.new.work c.flood.ensures.work_unchanged c.flood.ensures.by_index_2 none;
+      marked = marks_stay a.g _ a.work.now c.mark_voids-voids.new.work R c.flood.new.work c.flood.ensures.work_unchanged c.flood.ensures.by_index_2;
+    }
+
+pub returns : goal.returns
+returns c =
+    let a = c.args in
+    let R =
+    ready a.g a.elevations.now a.work.now c.sort.new.work c.mark_voids-voids.new.work c.requires.elevations_len c.requires.are_keys c.requires.same_voids
+    c.requires.g_in_bounds c.sort.auto.work c.sort.ensures.sorted c.sort.ensures.by_index c.mark_voids-voids.ensures.marked c.mark_voids-voids.ensures.by_index in
+    let first =
+    c.first_unreached.ensures
+    ∙ unreached_first a.g _ a.work.now c.mark_voids-voids.new.work R c.flood.new.work c.flood.ensures.work_unchanged c.flood.ensures.by_index_2 in
+    record {
+      value = first;
+      words = λ q. flooded_words a.g _ a.work.now c.mark_voids-voids.new.work R c.flood.new.work c.flood.ensures.work_unchanged c.flood.ensures.by_index_2 (sym first ∙ q);
+      marked = marks_stay a.g _ a.work.now c.mark_voids-voids.new.work R c.flood.new.work c.flood.ensures.work_unchanged c.flood.ensures.by_index_2;
+    }

@@ -1,0 +1,46 @@
+use mathlib.Core.Logic.{inl}
+use mathlib.Core.Path.{refl}
+use Rattle.flood.proofs.Halves.{wanted_low, touch_yes}
+use borrow.Author.Tests.{not-true, not-false}
+use borrow.Author.Rules.{rules}
+use Rattle.flood.proofs.touch.Reads as reads
+use Rattle.flood.proofs.touch.Lts as lts
+use Rattle.flood.proofs.reach.Reads as reach-reads
+use Rattle.flood.proofs.wanted.Reads as wanted-reads
+use Rattle.std.proofs.lemmas.Bool.{not_from_false, not_from_true}
+use Rattle.flood.proofs.touch.Goals as goal
+
+pub returns-then-not-wanted : goal.returns-then-not-wanted
+returns-then-not-wanted c =
+    record {
+      work_unchanged = refl;
+      touched = inl (refl, refl, c.wanted.ensures.fact (c.if-not-wanted.true));
+    }
+
+pub reach-requires : goal.reach-requires
+reach-requires c =
+    let a = c.args in
+    let W = c.wanted.ensures.wanted (c.if-not-wanted.false) in
+    let room = c.requires.room a.m W.0.0 W.2 in
+    let q = wanted_low a.n a.half a.v a.m a.work.now W in
+    record {
+      n_bound = c.requires.n_bound;
+      n_bound_2 = c.requires.n_bound_2;
+      n_in_bounds = c.requires.n_in_bounds;
+      v_bound = c.requires.v_bound;
+      m_bound = q;
+      m_lt_n = W.0.0;
+      len_lt_n = room;
+    }
+
+pub returns : goal.returns
+returns c =
+    let a = c.args in
+    let W = c.wanted.ensures.wanted (c.if-not-wanted.false) in
+    let room = c.requires.room a.m W.0.0 W.2 in
+    let the_all = touch_yes a.n a.half a.v a.len a.m a.work.now c.reach.new.work c.requires.n_bound_2 c.requires.n_in_bounds room
+    c.reach.ensures.value c.reach.ensures.work_after W in
+    record {
+      work_unchanged = the_all.0;
+      touched = the_all.1;
+    }

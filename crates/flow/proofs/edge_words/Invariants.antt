@@ -1,0 +1,16 @@
+use mathlib.Core.Path.{◌≡◌, refl, ◌∙◌}
+use Prim.Native.Nat.{◌-◌, ◌≤◌, ◌<◌}
+use native.Mathlib.Omega.{arith}
+use lib.ListN.{length, length-set}
+use Rattle.cells.specs.Marks.{Marked}
+use Rattle.flow_laws.specs.Words.{first_word}
+use Rattle.flow.specs.Seeding.{WordsTo}
+use Rattle.flow.proofs.Seeds.{stored_more, marked_set}
+use Rattle.flow.proofs.edge_words.Given as goal
+
+abbrev pub invariant-loop-cell : goal.invariant-loop-cell
+invariant-loop-cell l =
+    (l.from ≤ l.cell) × (l.cell ≤ l.to) × (length l.work ≡ length l.initial.work) × WordsTo l.g l.elevations l.cell l.work × Marked l.g l.elevations l.base l.work
+
+abbrev pub decreases-loop-cell : goal.decreases-loop-cell
+decreases-loop-cell l = l.to - l.cell

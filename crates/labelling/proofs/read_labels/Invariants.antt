@@ -1,0 +1,15 @@
+-- The labels of the cells passed stand.
+use Prim.Native.Nat.{◌+◌, ◌-◌, ◌≤◌}
+use mathlib.Core.Path.{◌≡◌, refl, sym, ◌∙◌}
+use native.Mathlib.Omega.{arith}
+use lib.ListN.{length, get_or, length-set}
+use Rattle.grid_laws.proofs.Below.{is_table}
+use Rattle.labelling.proofs.Labelled.{FilledTo, filled_more}
+use Rattle.labelling.proofs.read_labels.Given as goal
+
+abbrev pub invariant-loop-c : goal.invariant-loop-c
+invariant-loop-c l =
+    (l.c ≤ l.n) × (length l.labels ≡ l.n) × FilledTo (λ c. get_or l.tail c 0 - (l.n + 1)) c l.labels
+
+abbrev pub decreases-loop-c : goal.decreases-loop-c
+decreases-loop-c l = l.n - l.c

@@ -1,0 +1,15 @@
+use mathlib.Core.Path.{◌≡◌, refl, ◌∙◌}
+use Prim.Native.Nat.{◌-◌, ◌≤◌}
+use native.Mathlib.Omega.{arith}
+use lib.ListN.{length}
+use Rattle.grid.specs.Sheet.{size}
+use Rattle.flow_laws.specs.Words.{Searching}
+use Rattle.flow_laws.proofs.Words.{searching_most}
+use Rattle.levels.proofs.empty_open.Given as goal
+
+abbrev pub invariant-loop-head : goal.invariant-loop-head
+invariant-loop-head l =
+    (length l.work ≡ length l.initial.work) × Searching l.g l.elevations l.half l.work (size l.g) l.head l.end
+
+abbrev pub decreases-loop-head : goal.decreases-loop-head
+decreases-loop-head l = size l.g - l.head

@@ -1,0 +1,48 @@
+use mathlib.Core.Path.{◌≡◌, refl, ◌∙◌}
+use Prim.Native.Nat.{◌-◌, ◌≤◌}
+use native.Mathlib.Omega.{arith}
+use lib.ListN.{length}
+use Rattle.flow_laws.specs.Words.{Joining}
+use Rattle.levels.proofs.inner_run.Goals as goal
+
+pub loop-cell-init : goal.loop-cell-init
+loop-cell-init c = (omega arith, c.requires.from_le_to.0, refl, c.requires.joining)
+
+pub join_inner-tail-requires : goal.join_inner-tail-requires
+join_inner-tail-requires c =
+    let same = c.loop-cell.invariant.2 in
+    let fits = c.requires.g_in_bounds in
+    let last = c.requires.from_le_to.1 in
+    let test = c.loop-cell-test.true in
+    record {
+      elevations_len = c.requires.elevations_len;
+      g_bound = c.requires.g_bound;
+      g_bound_2 = c.requires.g_bound_2;
+      g_in_bounds = omega arith;
+      cell_bound = omega arith;
+      inner = c.requires.by_index c.loop-cell.cell c.loop-cell.invariant.0 test;
+      joining = c.loop-cell.invariant.3;
+      offsets = c.requires.offsets;
+    }
+
+pub overflow_add-cell : goal.overflow_add-cell
+overflow_add-cell c = let test = c.loop-cell-test.true in omega arith
+
+pub loop-cell-smaller : goal.loop-cell-smaller
+loop-cell-smaller c = let test = c.loop-cell-test.true in omega arith
+
+pub loop-cell-preserved : goal.loop-cell-preserved
+loop-cell-preserved c =
+    let from = c.loop-cell.invariant.0 in
+    let test = c.loop-cell-test.true in
+    (omega arith, omega arith, c.join_inner-tail.auto.work ∙ c.loop-cell.invariant.2, c.join_inner-tail.ensures)
+
+pub shape_of-work : goal.shape_of-work
+shape_of-work c = c.loop-cell.invariant.2
+
+pub returns : goal.returns
+returns c =
+    let below = c.loop-cell.invariant.1 in
+    let left = c.loop-cell-test.false in
+    let all : c.loop-cell.cell ≡ c.args.to = omega arith in
+    rw all at c.loop-cell.invariant.3

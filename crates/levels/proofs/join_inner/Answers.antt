@@ -1,0 +1,69 @@
+use mathlib.Core.Path.{◌≡◌}
+use Prim.Native.Nat.{◌<◌}
+use native.Mathlib.Omega.{arith}
+use borrow.Author.Rules.{rules, sfits_of}
+use Rattle.grid.specs.Sheet.{at}
+use Rattle.cells.specs.Keys.{level_of}
+use Rattle.levels.proofs.Keyed.{key_read, data_known}
+use Rattle.levels.proofs.Joined.{joining_has, joining_data, joining_alone, joining_room, joining_next}
+use Rattle.levels.proofs.join_inner.Goals as goal
+
+-- a cell without a word holds data, so its key is above 0
+own : (c : goal.After-key-k) → (at c.args.elevations.now c.args.cell ≡ level_of c.key-k.result) × (0 < c.key-k.result)
+own c =
+    let a = c.args in
+    let len = c.requires.elevations_len in
+    let on = c.requires.cell_bound in
+    let fits = sfits_of c.key-arg-1.given in
+    data_known a.elevations.now a.cell c.key-k.result
+    (key_read a.elevations.now a.cell c.key-k.result (omega arith) fits (c.key-k.ensures.value, (c.key-k.ensures.upper_bound, c.key-k.ensures.elevation)))
+    (joining_data a.g a.elevations.now len a.half a.work.now a.cell a.tail on c.requires.joining
+    c.if-work-cell-ne0.false)
+
+pub returns-then-work-cell-ne0 : goal.returns-then-work-cell-ne0
+returns-then-work-cell-ne0 c =
+    let a = c.args in
+    joining_has a.g a.elevations.now c.requires.elevations_len a.half a.work.now a.cell a.tail c.requires.cell_bound
+    c.requires.joining c.if-work-cell-ne0.true
+
+pub zero_inner-requires : goal.zero_inner-requires
+zero_inner-requires c =
+    let inner = c.requires.inner in
+    record {
+      elevations_len = c.requires.elevations_len;
+      g_bound = c.requires.g_bound;
+      g_in_bounds = omega arith;
+      inner = inner;
+      cell_value = (own c.before).0;
+      k_nonzero = (own c.before).1;
+      offsets = c.requires.offsets;
+    }
+
+pub returns-then-zero_inner-ge8 : goal.returns-then-zero_inner-ge8
+returns-then-zero_inner-ge8 c =
+    let a = c.args in
+    joining_alone a.g a.elevations.now c.requires.elevations_len a.half a.work.now a.cell a.tail c.requires.cell_bound
+    c.requires.joining (c.zero_inner.ensures.result_value, c.zero_inner.ensures.fact) c.if-zero_inner-ge8.true
+
+pub put-requires : goal.put-requires
+put-requires c =
+    let a = c.args in
+    let on = c.requires.cell_bound in
+    let small = c.requires.g_bound in
+    let under = c.requires.g_bound_2 in
+    let fits = c.requires.g_in_bounds in
+    let room =
+    joining_room a.g a.elevations.now c.requires.elevations_len a.half a.work.now a.cell a.tail on c.requires.joining
+    c.if-work-cell-ne0.false in
+    record {
+      m_bound = omega arith;
+      place_in_bounds = omega arith;
+      len_in_bounds = omega arith;
+    }
+
+pub returns : goal.returns
+returns c =
+    let a = c.args in
+    joining_next a.g a.elevations.now c.requires.elevations_len a.half a.work.now a.cell a.tail c.requires.cell_bound
+    c.requires.joining (c.zero_inner.ensures.result_value, c.zero_inner.ensures.fact) c.if-zero_inner-ge8.false c.requires.g_bound_2
+    c.requires.g_in_bounds c.if-work-cell-ne0.false c.put.ensures.value c.put.ensures.work_after

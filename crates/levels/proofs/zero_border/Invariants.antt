@@ -1,0 +1,12 @@
+-- The eight steps one after the other, as far as p.
+use Prim.Native.Nat.{◌-◌, ◌≤◌}
+use native.Mathlib.Omega.{arith}
+use borrow.Author.Rules.{rules}
+use Rattle.levels.proofs.Keyed.{Looked, looked_none, looked_more}
+use Rattle.levels.proofs.zero_border.Given as goal
+
+abbrev pub invariant-loop-p : goal.invariant-loop-p
+invariant-loop-p l = (l.p ≤ 8) × Looked l.g l.elevations l.work l.cell l.p l.found
+
+abbrev pub decreases-loop-p : goal.decreases-loop-p
+decreases-loop-p l = 8 - l.p

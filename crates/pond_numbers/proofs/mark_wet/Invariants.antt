@@ -1,0 +1,15 @@
+-- The first c cells are marked.
+use native.Mathlib.Omega.{arith}
+use Prim.Native.Nat.{◌-◌, ◌≤◌}
+use mathlib.Core.Path.{◌≡◌, refl, ◌∙◌}
+use lib.ListN.{length, length-set}
+use Rattle.grid.specs.Sheet.{size}
+use Rattle.pond_numbers.proofs.Numbering.{MarkedTo, mark_more, marked_all}
+use Rattle.pond_numbers.proofs.mark_wet.Given as goal
+
+abbrev pub invariant-loop-c : goal.invariant-loop-c
+invariant-loop-c l =
+    (l.c ≤ l.n) × (length l.work ≡ length l.initial.work) × MarkedTo l.n l.initial.work l.work l.c
+
+abbrev pub decreases-loop-c : goal.decreases-loop-c
+decreases-loop-c l = l.n - l.c

@@ -1,0 +1,16 @@
+-- The first i values are put.
+use mathlib.Core.Path.{refl}
+use Prim.Native.Nat.{◌-◌, ◌≤◌}
+use native.Mathlib.Omega.{arith}
+use lib.ListN.{get_or}
+use Prim.Native.Nat.{◌/◌, ◌%◌}
+use Rattle.pour_laws.specs.Columns.{Put}
+use Rattle.pour_columns.proofs.Puts.{digit_small, put_none, put_more, put_end}
+use Rattle.pour_columns.proofs.put_digits.Given as goal
+
+abbrev pub invariant-loop-i : goal.invariant-loop-i
+invariant-loop-i l =
+    (l.i ≤ l.k) × Put 0 l.i l.place (λ j. get_or l.words j 0 / l.divisor % l.modulus) l.initial.column l.column
+
+abbrev pub decreases-loop-i : goal.decreases-loop-i
+decreases-loop-i l = l.k - l.i

@@ -1,0 +1,21 @@
+-- The first n entries stand in the columns, and the rest is as at entry.
+use mathlib.Core.Path.{◌≡◌, refl, subst}
+use Prim.Native.Nat.{ℕ, ◌+◌, ◌-◌}
+use native.Mathlib.Omega.{arith}
+use lib.ListN.{length}
+use Rattle.grid.specs.PourPoints.{pour_points}
+use Rattle.pour_laws.specs.Columns.{Between, ColumnsTo}
+use Rattle.pour_laws.proofs.Columns.{between_none, between_more, scan_within, columns_none, columns_more, columns_whole}
+use Rattle.pour_laws.proofs.Few.{few_entries}
+use Rattle.pour_columns.proofs.Puts.{still_one, not_full}
+use Rattle.pour_columns.proofs.write_all.Given as goal
+
+abbrev pub invariant-loop-k : goal.invariant-loop-k
+invariant-loop-k l =
+    (length l.pairs ≡ 16384)
+    × (length l.ranks ≡ 16384)
+    × Between l.g l.elevations l.labels l.limit l.n l.k
+    × ColumnsTo (pour_points l.g l.elevations l.labels) l.n l.initial.smaller l.smaller l.initial.larger l.larger l.initial.elevation l.elevation l.initial.cell l.cell
+
+abbrev pub decreases-loop-k : goal.decreases-loop-k
+decreases-loop-k l = (length (pour_points l.g l.elevations l.labels) - l.n) + l.k

@@ -1,0 +1,12 @@
+-- Position by position: the codes are eight different places.
+use mathlib.Core.Path.{refl}
+use Prim.Native.Nat.{◌-◌, ◌<◌}
+use native.Mathlib.Omega.{arith}
+use Rattle.receivers.proofs.Codes.{ReachTo, code_small, reach_none, reach_more, reach_all}
+use Rattle.receivers.proofs.reach_table.Given as goal
+
+abbrev pub invariant-loop-p : goal.invariant-loop-p
+invariant-loop-p l = ReachTo l.offsets l.table l.p
+
+abbrev pub decreases-loop-p : goal.decreases-loop-p
+decreases-loop-p l = 8 - l.p

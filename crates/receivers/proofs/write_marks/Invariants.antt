@@ -1,0 +1,18 @@
+-- The marks of the cells passed stand; row and column are those of the present cell.
+use Prim.Native.Nat.{ℕ, ◌-◌, ◌/◌, ◌%◌, ◌≤◌}
+use mathlib.Core.Path.{◌≡◌, subst}
+use native.Mathlib.Omega.{arith}
+use borrow.Author.Rules.{rules}
+use native.Mathlib.Nat.{mod-lt, mod-le, div-le_self}
+use Rattle.grid.specs.Sheet.{size}
+use Rattle.grid_laws.proofs.Neighbours.{cols_positive}
+use Rattle.receivers.specs.Written.{WrittenTo}
+use Rattle.receivers.proofs.Written.{written_none, written_more}
+use Rattle.receivers.proofs.write_marks.Given as goal
+
+abbrev pub invariant-loop-cell : goal.invariant-loop-cell
+invariant-loop-cell l =
+    (l.cell ≤ size l.g) × (l.row ≡ l.cell / l.g.cols) × (l.col ≡ l.cell % l.g.cols) × WrittenTo l.g l.codes l.cell l.initial.tail l.tail
+
+abbrev pub decreases-loop-cell : goal.decreases-loop-cell
+decreases-loop-cell l = size l.g - l.cell

@@ -1,0 +1,19 @@
+-- `text_checks::feeds_end_lines`: every byte before the place is right.
+use mathlib.Core.Path.{sym, ◌∙◌}
+use Prim.Native.Nat.{◌-◌, ◌≤◌}
+use native.Mathlib.Omega.{arith}
+use lib.ListN.{length}
+use borrow.Author.Count.{below_none, below_more}
+use borrow.Author.Tests.{not-true, not-false}
+use Rattle.text_checks.proofs.Bytes.{PlacedTo, all_placed, one_misplaced}
+use Rattle.text_checks.proofs.feeds_end_lines.Reads as reads
+use Rattle.text_checks.proofs.feeds_end_lines.Lts as lts
+use Rattle.cursor.proofs.Cursor.byte.Reads as byte-Reads
+use Rattle.text_checks.proofs.is_placed.Reads as is-placed-reads
+use Rattle.text_checks.proofs.feeds_end_lines.Given as goal
+
+abbrev pub invariant-loop-next : goal.invariant-loop-next
+invariant-loop-next l = (l.next.at ≤ length l.text) × PlacedTo l.cols l.text l.next.at
+
+abbrev pub decreases-loop-next : goal.decreases-loop-next
+decreases-loop-next l = length l.text - l.next.at

@@ -1,0 +1,19 @@
+-- `text_checks::first_bad_byte`: every byte before the place is a digit or a line feed.
+use mathlib.Core.Path.{sym, ◌∙◌}
+use Prim.Native.Nat.{◌-◌, ◌≤◌}
+use native.Mathlib.Omega.{arith}
+use lib.ListN.{length}
+use borrow.Author.Count.{below_none, below_more}
+use borrow.Author.Tests.{not-true, not-false}
+use Rattle.text_checks.proofs.Bytes.{FineTo, bad_byte, no_bad_byte}
+use Rattle.text_checks.proofs.first_bad_byte.Reads as reads
+use Rattle.text_checks.proofs.first_bad_byte.Lts as lts
+use Rattle.cursor.proofs.Cursor.byte.Reads as byte-Reads
+use Rattle.text_checks.proofs.is_text_byte.Reads as is-text-byte-reads
+use Rattle.text_checks.proofs.first_bad_byte.Given as goal
+
+abbrev pub invariant-loop-next : goal.invariant-loop-next
+invariant-loop-next l = (l.next.at ≤ length l.text) × FineTo l.text l.next.at
+
+abbrev pub decreases-loop-next : goal.decreases-loop-next
+decreases-loop-next l = length l.text - l.next.at

@@ -1,0 +1,20 @@
+-- `text_lines::codes_sheet`: r lines of the sheet are stored.
+use mathlib.Core.Path.{◌≡◌}
+use Prim.Native.Nat.{◌+◌, ◌-◌, ◌*◌, ◌≤◌}
+use native.Mathlib.Omega.{arith}
+use lib.ListN.{get_or}
+use Rattle.grid.specs.Sheet.{at}
+use Rattle.text_laws.proofs.Runs.{one_more_fits}
+use Rattle.text_laws.proofs.Digits.{sheet_lines}
+use Rattle.text_lines.proofs.Lines.{LinesTo, lines_none, lines_more, lines_end}
+use Rattle.text_lines.proofs.codes_sheet.Reads as reads
+use Rattle.text_lines.proofs.codes_sheet.Lts as lts
+use Rattle.text_lines.proofs.codes_line.Reads as codes-line-reads
+use Rattle.text_lines.proofs.codes_sheet.Given as goal
+
+abbrev pub invariant-loop-r : goal.invariant-loop-r
+invariant-loop-r l =
+    (l.r ≤ l.rows) × LinesTo l.cols 2 (λ i. get_or l.codes i 0) l.initial.out l.from l.out l.next l.c l.r
+
+abbrev pub decreases-loop-r : goal.decreases-loop-r
+decreases-loop-r l = l.rows - l.r

@@ -1,0 +1,59 @@
+-- `text_lines::elevations_line`: q cells of the line are stored, and then its line feed.
+use mathlib.Core.Path.{◌≡◌, refl}
+use Prim.Native.Nat.{◌-◌, ◌≤◌}
+use native.Mathlib.Omega.{arith}
+use lib.ListN.{length-set}
+use Rattle.grid.specs.Sheet.{at}
+use Rattle.grid.specs.Frames.{to_twos}
+use Rattle.text_lines.specs.Sixteen.{SixteenFrom}
+use Rattle.text_lines.proofs.Sixteen.{none_read, one_read, more_read}
+use Rattle.text_lines.proofs.Lines.{CellsTo, cells_none, cells_more, cells_end}
+use Rattle.text_lines.proofs.elevations_line.Reads as reads
+use Rattle.text_lines.proofs.elevations_line.Lts as lts
+use Rattle.text_lines.proofs.put_hex.Reads as put-hex-reads
+use Rattle.text_lines.proofs.twos_at.Reads as twos-at-reads
+use Rattle.text_lines.proofs.elevations_line.Goals as goal
+
+pub loop-q-init : goal.loop-q-init
+loop-q-init c = (omega arith, cells_none 4 _ _ _ _, none_read)
+
+pub overflow_add-c : goal.overflow_add-c
+overflow_add-c c = omega arith
+
+pub twos_at-v-requires : goal.twos_at-v-requires
+twos_at-v-requires c = omega arith
+
+pub put_hex-next-requires : goal.put_hex-next-requires
+put_hex-next-requires c = omega arith
+
+pub overflow_add-q : goal.overflow_add-q
+overflow_add-q c = omega arith
+
+pub loop-q-smaller : goal.loop-q-smaller
+loop-q-smaller c = omega arith
+
+pub loop-q-preserved : goal.loop-q-preserved
+loop-q-preserved c =
+    (
+      omega arith,
+      cells_more 4 _ _ _ _ _ c.loop-q.invariant.1 c.twos_at-v.ensures.value c.put_hex-next.ensures,
+      more_read refl c.loop-q.invariant.2 (one_read c.twos_at-v.ensures.elevation),
+    )
+
+pub bounds-out-next : goal.bounds-out-next
+bounds-out-next c = omega arith
+
+pub overflow_add-result : goal.overflow_add-result
+overflow_add-result c = omega arith
+
+pub shape_of-out : goal.shape_of-out
+shape_of-out c = simp length-set c.loop-q.invariant.1.same_length
+
+pub returns : goal.returns
+returns c =
+    let s = c.args in
+    let e : c.loop-q.q ≡ s.cols = omega arith in
+    record {
+      put = cells_end 4 _ _ _ _ (rw e at c.loop-q.invariant.1);
+      sixteen_from = rw e at c.loop-q.invariant.2;
+    }

@@ -1,0 +1,22 @@
+-- `text_lines::elevations_line`: q cells of the line are stored, and then its line feed.
+use mathlib.Core.Path.{◌≡◌, refl}
+use Prim.Native.Nat.{◌-◌, ◌≤◌}
+use native.Mathlib.Omega.{arith}
+use lib.ListN.{length-set}
+use Rattle.grid.specs.Sheet.{at}
+use Rattle.grid.specs.Frames.{to_twos}
+use Rattle.text_lines.specs.Sixteen.{SixteenFrom}
+use Rattle.text_lines.proofs.Sixteen.{none_read, one_read, more_read}
+use Rattle.text_lines.proofs.Lines.{CellsTo, cells_none, cells_more, cells_end}
+use Rattle.text_lines.proofs.elevations_line.Reads as reads
+use Rattle.text_lines.proofs.elevations_line.Lts as lts
+use Rattle.text_lines.proofs.put_hex.Reads as put-hex-reads
+use Rattle.text_lines.proofs.twos_at.Reads as twos-at-reads
+use Rattle.text_lines.proofs.elevations_line.Given as goal
+
+abbrev pub invariant-loop-q : goal.invariant-loop-q
+invariant-loop-q l =
+    (l.q ≤ l.cols) × CellsTo 4 (λ i. to_twos (at l.elevations i)) l.c l.initial.out l.from l.out l.next l.q × SixteenFrom l.elevations l.c l.q
+
+abbrev pub decreases-loop-q : goal.decreases-loop-q
+decreases-loop-q l = l.cols - l.q

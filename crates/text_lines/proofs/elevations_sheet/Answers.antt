@@ -1,0 +1,55 @@
+-- `text_lines::elevations_sheet`: r lines of the sheet are stored.
+use mathlib.Core.Path.{◌≡◌, sym, ap, ◌∙◌}
+use Prim.Native.Nat.{ℕ, ◌+◌, ◌-◌, ◌*◌, ◌≤◌}
+use native.Mathlib.Nat.{zero-add}
+use native.Mathlib.Omega.{arith}
+use Rattle.grid.specs.Sheet.{at}
+use Rattle.grid.specs.Frames.{to_twos}
+use Rattle.text_laws.proofs.Runs.{one_more_fits}
+use Rattle.text_laws.proofs.Digits.{sheet_lines}
+use Rattle.text_lines.specs.Sixteen.{SixteenFrom}
+use Rattle.text_lines.proofs.Sixteen.{none_read, more_read, all_read}
+use Rattle.text_lines.proofs.Lines.{LinesTo, lines_none, lines_more, lines_end}
+use Rattle.text_lines.proofs.elevations_sheet.Reads as reads
+use Rattle.text_lines.proofs.elevations_sheet.Lts as lts
+use Rattle.text_lines.proofs.elevations_line.Reads as elevations-line-reads
+use Rattle.text_lines.proofs.elevations_sheet.Goals as goal
+
+pub loop-r-init : goal.loop-r-init
+loop-r-init c = (omega arith, lines_none _ 4 _ _ _, none_read)
+
+pub elevations_line-next-requires : goal.elevations_line-next-requires
+elevations_line-next-requires c =
+    let s = c.args in
+    let h = c.loop-r-test.true in
+    omega (arith, one_more_fits s.g.cols h, one_more_fits (s.g.cols * 4 + 1) h)
+
+pub overflow_add-c : goal.overflow_add-c
+overflow_add-c c =
+    let s = c.args in
+    let h = c.loop-r-test.true in
+    omega (arith, one_more_fits s.g.cols h)
+
+pub overflow_add-r : goal.overflow_add-r
+overflow_add-r c = omega arith
+
+pub loop-r-smaller : goal.loop-r-smaller
+loop-r-smaller c = omega arith
+
+pub loop-r-preserved : goal.loop-r-preserved
+loop-r-preserved c =
+    let h = c.loop-r-test.true in
+    (omega arith, lines_more _ 4 _ _ _ c.loop-r.invariant.1 c.elevations_line-next.ensures.put, more_read (sym (zero-add c.loop-r.c)) c.loop-r.invariant.2 c.elevations_line-next.ensures.sixteen_from)
+
+pub shape_of-out : goal.shape_of-out
+shape_of-out c = c.loop-r.invariant.1.same_length
+
+pub returns : goal.returns
+returns c =
+    let s = c.args in
+    let e : c.loop-r.r ≡ s.g.rows = omega arith in
+    let n : c.loop-r.c ≡ s.g.rows * s.g.cols = c.loop-r.invariant.1.next_cell ∙ ap (λ (x : ℕ). x * s.g.cols) e in
+    record {
+      put = rw (sheet_lines s.g) (lines_end _ 4 _ _ _ (rw e at c.loop-r.invariant.1));
+      sixteen_bits = all_read c.loop-r.invariant.2 (c.requires.0 ∙ sym n);
+    }

@@ -1,0 +1,20 @@
+-- `text_lines::put_hex`: what is stored, with the digits that are left stored too, is the whole number.
+use mathlib.Core.Path.{◌≡◌, refl, sym, ap, ◌∙◌}
+use mathlib.Core.List.{List}
+use Prim.Native.Nat.{ℕ, suc, ◌+◌, ◌-◌, ◌/◌, ◌≤◌}
+use native.Mathlib.Omega.{arith}
+use lib.ListN.{length, set, length-set}
+use lib.Seq.{sets}
+use Rattle.grid.specs.Frames.{hex_text}
+use Rattle.text_laws.proofs.Digits.{length_hex, last_digit, no_digit}
+use Rattle.text_lines.proofs.put_hex.Reads as reads
+use Rattle.text_lines.proofs.put_hex.Lts as lts
+use Rattle.text_lines.proofs.upper_digit.Reads as upper-digit-reads
+use Rattle.text_lines.proofs.put_hex.Given as goal
+
+abbrev pub invariant-loop-left : goal.invariant-loop-left
+invariant-loop-left l =
+    (l.left ≤ l.k) × (length l.out ≡ length l.initial.out) × (sets l.out l.from (hex_text l.left l.rest) ≡ sets l.initial.out l.from (hex_text l.k l.v))
+
+abbrev pub decreases-loop-left : goal.decreases-loop-left
+decreases-loop-left l = l.left

@@ -1,0 +1,16 @@
+-- `text_sheet::read_lines`: r lines of the sheet are stored.
+use mathlib.Core.Path.{◌≡◌}
+use Prim.Native.Nat.{◌+◌, ◌-◌, ◌*◌, ◌≤◌}
+use native.Mathlib.Omega.{arith}
+use Rattle.text_laws.proofs.Runs.{one_more_fits}
+use Rattle.text_sheet.proofs.Cells.{LinesTo, lines_none, lines_more, lines_end}
+use Rattle.text_sheet.proofs.read_lines.Reads as reads
+use Rattle.text_sheet.proofs.read_lines.Lts as lts
+use Rattle.text_sheet.proofs.read_line.Reads as read-line-reads
+use Rattle.text_sheet.proofs.read_lines.Given as goal
+
+abbrev pub invariant-loop-r : goal.invariant-loop-r
+invariant-loop-r l = (l.r ≤ l.rows) × LinesTo l.text l.cols l.initial.elevations l.elevations l.next l.c l.r
+
+abbrev pub decreases-loop-r : goal.decreases-loop-r
+decreases-loop-r l = l.rows - l.r

@@ -1,0 +1,14 @@
+-- No crew before the present one is lost.
+use mathlib.Core.Path.{sym, ◌∙◌}
+use Prim.Native.Nat.{◌-◌, ◌≤◌}
+use native.Mathlib.Omega.{arith}
+use borrow.Author.Count.{below_more}
+use Rattle.tracing.proofs.Traces.{NoneLost, lost_here, lost_nowhere}
+use borrow.Author.Rules.{rules}
+use Rattle.tracing.proofs.first_lost.Given as goal
+
+abbrev pub invariant-loop-k : goal.invariant-loop-k
+invariant-loop-k l = (l.k ≤ 32) × NoneLost l.codes l.crews l.k
+
+abbrev pub decreases-loop-k : goal.decreases-loop-k
+decreases-loop-k l = 32 - l.k

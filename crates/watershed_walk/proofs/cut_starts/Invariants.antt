@@ -1,0 +1,13 @@
+-- The places passed are cut.
+use Prim.Native.Nat.{ℕ, ◌+◌, ◌-◌, ◌≤◌}
+use mathlib.Core.Path.{◌≡◌, sym, subst}
+use native.Mathlib.Omega.{arith}
+use mathlib.Core.List.{List}
+use Rattle.watershed_walk.proofs.Cutting.{CutTo, cut_to_none, cut_to_more, cut_all}
+use Rattle.watershed_walk.proofs.cut_starts.Given as goal
+
+abbrev pub invariant-loop-cell : goal.invariant-loop-cell
+invariant-loop-cell l = (l.cell ≤ l.n) × CutTo l.n l.starts l.cell l.initial.tail l.tail
+
+abbrev pub decreases-loop-cell : goal.decreases-loop-cell
+decreases-loop-cell l = l.n - l.cell
