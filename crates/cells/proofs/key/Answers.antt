@@ -20,9 +20,8 @@ pub returns : goal.returns
 returns c =
     let e = c.args.e in
     let h = c.ranges.e.sfits in
-    let the_all = rw (sum_is e c.ranges.e) (refl, (word_small e h, (word_void e h, word_top e h))) in
     record {
-      value = the_all.0;
-      upper_bound = the_all.1.0;
-      elevation = the_all.1.1;
+      value = rw (sum_is e c.ranges.e) refl;
+      upper_bound = rw (sum_is e c.ranges.e) (word_small e h);
+      elevation = (word_void e h, word_top e h);
     }

@@ -25,7 +25,7 @@ pub returns : goal.returns
 returns c =
     let s = c.args in
     let e = s.elevations.now in
-    let q : to_z w16 (of_z w16 (get_or e s.c (pos 0))) ≡ get_or e s.c (pos 0) = to_z-of_z (sfits_of c.key-arg-1.given) in
+    let q : to_z w16 (of_z w16 (get_or e s.c (pos 0))) ≡ get_or e s.c (pos 0) = to_z-of_z {w = w16} (sfits_of c.key-arg-1.given) in
     let the_all = known_read e s.c c.key-2.result c.if-c-elevations.false (subst (Known c.key-2.result) q (c.key-2.ensures.value, (c.key-2.ensures.upper_bound, c.key-2.ensures.elevation))) in
     record {
       value = the_all.0;
