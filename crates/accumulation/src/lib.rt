@@ -4,6 +4,8 @@
 // goes on with its receiver as soon as that awaits no more; so each cell is passed once, with no queue. If a cell is never passed, some
 // route does not end. Proved by what one passing keeps (`count_laws`, `Passing`), and by what then holds when all cells are done, or some
 // are not.
+#![tactic(auto)]
+
 ghost use Rattle.std.specs.Prelude.{◌≡◌, ℕ, ◌+◌, ◌<◌, ◌≤◌, take};
 ghost use Rattle.count_laws.specs.Passing.{FewDonors, DonorsTo};
 ghost use Rattle.route_laws.specs.Receivers.{Marks};

@@ -2,6 +2,8 @@
 // functions, each one question longer than the one before; and the same with 17 after 6, for calls that work out outlets, and with 17 and
 // 20, for calls that work out codes, 5, 6, 17 and 20 alone too. `located` hands an answer on where places may be places in a list.
 // `proofs/Gate.antt` carries an answer to each call's own definition in `grid`: what is asked after it, and what a yes says.
+#![tactic(auto)]
+
 ghost use Rattle.std.specs.Prelude.{◌≡◌, ◌&&◌, [], ◌∷◌, ◌*◌, ◌<◌, ◌^◌, leb};
 ghost use Rattle.grid.specs.Sheet.{size};
 ghost use Rattle.grid.specs.Checks.{accepted, in_range, in_shape, all_have, ask_size, ask_sides, ask_sheets, ask_outlets, ask_description};

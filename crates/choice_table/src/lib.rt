@@ -1,5 +1,7 @@
 // The table that chooses one code for each sum of codes ("Directions"). Its rule is computed once, for all 256 entries, and carried to each
 // sum by a law.
+#![tactic(auto)]
+
 ghost use Rattle.std.specs.Prelude.{◌≡◌, ◌<◌};
 ghost use Rattle.grid.specs.Directions.{choice};
 ghost use Rattle.choice_table.specs.Choices.{choices as choices'};

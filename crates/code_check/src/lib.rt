@@ -1,5 +1,7 @@
 // Questions 11 and 12 about a lent sheet of codes, by way of a lent tail, and with them the questions of a call that is lent no sheet but
 // codes: 5, 6, 7, 9, 11 and 12.
+#![tactic(auto)]
+
 ghost use Rattle.std.specs.Prelude.{◌≡◌, ◌*◌, ◌≤◌, length};
 ghost use Rattle.grid.specs.Sheet.{size};
 ghost use Rattle.grid.specs.Routes.{first_endless};

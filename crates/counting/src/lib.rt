@@ -1,6 +1,8 @@
 // Counts from the marks at the front of a lent tail (`route_laws`, `specs/Receivers`), written to the result only when question 12 is
 // answered: "A no changes no result buffer". The counts call and the one call share this. `proofs/Sheet` carries marks, counts and the
 // first endless cell over to a sheet of codes.
+#![tactic(auto)]
+
 ghost use Rattle.std.specs.Prelude.{◌≡◌, ℕ, ◌+◌, ◌<◌, ◌≤◌, length, take};
 ghost use Rattle.grid.specs.Below.{table};
 ghost use Rattle.route_laws.specs.Receivers.{Marks};

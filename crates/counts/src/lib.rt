@@ -2,6 +2,8 @@
 // to 9, then 11 and 12. The receivers of the codes go into the second half of the work buffer, where one pass down the routes counts
 // (crates `receivers`, `accumulation`); the first half stays as it was lent (request 4). The result is written when the last question is
 // answered.
+#![tactic(auto)]
+
 ghost use Rattle.std.specs.Prelude.{◌≡◌, cond, ◌+◌, ◌<◌, ◌≤◌, eqb, length};
 ghost use Rattle.grid.specs.Sheet.{size};
 ghost use Rattle.grid.specs.Routes.{counts as counts', first_endless};

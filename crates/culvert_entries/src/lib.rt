@@ -2,6 +2,8 @@
 // 16 refuses, and the opened sheet in the work buffer. Every entry is judged on the elevations as lent, before the first is opened. Levels
 // go by their keys, as elevations do: the sheet in the work buffer is spelled by keys, so that to open a cell is to keep the lower of two
 // keys (proofs/Loaded), and the elevations are only read.
+#![tactic(auto)]
+
 ghost use Rattle.std.specs.Prelude.{◌≡◌, cond, ◌≤◌, ◌<◌, leb, length, set};
 ghost use Rattle.grid.specs.Culverts.{opened, is_level_for, first_bad_entry};
 ghost use Rattle.grid.specs.Checks.{accepted, ask_entries, of_located};

@@ -3,6 +3,8 @@
 // 15 and 16, entry by entry on the elevations as lent: "If any entry is refused, none is applied". The elevations are loaded as keys into
 // the work buffer and opened there, and what is loaded is drained as in the one call, which asks 18: demand 3 holds with the opened sheet
 // as the input.
+#![tactic(auto)]
+
 ghost use Rattle.std.specs.Prelude.{◌≡◌, length};
 ghost use Rattle.grid.specs.Sheet.{size};
 ghost use Rattle.grid.specs.Culverts.{opened, first_bad_entry};

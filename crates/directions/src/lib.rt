@@ -2,6 +2,8 @@
 // voids are marked, if there are any, and then come the levels. Where every data cell has one, the codes lead each to an outlet, so that 18
 // needs no look of its own. Where one has none, 18 is asked, for the first data cell without a chain to an outlet, and then 10 is the no;
 // both leave the codes as they were.
+#![tactic(auto)]
+
 ghost use Rattle.std.specs.Prelude.{◌≡◌, ◌+◌, ◌*◌, ◌/◌, ◌<◌, ◌≤◌, ◌^◌, length};
 ghost use Rattle.grid.specs.Sheet.{size};
 ghost use Rattle.grid.specs.Checks.{refusal, ask_reach};

@@ -1,5 +1,7 @@
 // The program: standard input to standard output, over one proved call from text to text. It reads one byte more than the longest text
 // that is accepted, so that a longer one is noticed.
+#![tactic(auto)]
+
 ghost use Rattle.std.specs.Prelude.{◌≤◌, length};
 
 use libc::STDOUT_FILENO;

@@ -3,6 +3,8 @@
 // before a result is written. Its promise carries demand 3 about the four lists that it leaves: they are those of the definitions, and for
 // these demand 3 is a law (`guarantee_laws`, `proofs/OneCall`). `drain_loaded` is a step of its own: 18 and the four results of any sheet
 // that the keys in the work buffer spell, as of an opened one.
+#![tactic(auto)]
+
 ghost use Rattle.std.specs.Prelude.{◌≡◌, length};
 ghost use Rattle.grid.specs.Sheet.{size};
 ghost use Rattle.grid.specs.Routes.{counts as counts', labels as labels'};

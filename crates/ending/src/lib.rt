@@ -2,6 +2,8 @@
 // itself", a slice of that list with its lifetime. The lists are checked first (crate `lists`); then a walk goes back from both ends while
 // the cells are alike. That the part which it cuts off is the longest, and that of two whole routes it begins where they meet, are laws
 // (`ending_laws`).
+#![tactic(auto)]
+
 ghost use Rattle.std.specs.Prelude.{◌≡◌, min, ◌≤◌, ◌<◌, length};
 ghost use Rattle.grid.specs.Endings.{from_end, shared_length};
 ghost use Rattle.grid.specs.Promises.{EndingPromise};

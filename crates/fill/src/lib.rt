@@ -5,6 +5,8 @@
 // order tells. What the flood has not come to has no chain to an outlet: question 18 costs one scan, and none where every side is open and
 // no cell void. The questions 5 to 9 come first, 17 among them; only the work buffer is written before the last loop. `load`,
 // `fill_loaded`, `fill_sheet` and `first_stranded` are steps of their own, for other calls.
+#![tactic(auto)]
+
 ghost use Rattle.std.specs.Prelude.{◌≡◌, true, false, cond, ◌&&◌, ℕ, ◌+◌, ◌*◌, ◌/◌, ◌<◌, ◌≤◌, ◌^◌, eqb, ltb, length, get_or};
 ghost use Rattle.grid.specs.Below.{first_below};
 ghost use Rattle.grid.specs.Sheet.{size, at, is_data, SixteenBits};

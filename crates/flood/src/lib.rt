@@ -2,6 +2,8 @@
 // beside a reached cell, is reached at its own key, and so is what lies no higher beside it, and beside that, through the queue of waiting
 // cells in the second half of the work buffer (`queue`). Proved by the state in flood_laws: `Between` two cells of the order, `During` the
 // emptying of the queue. Each function says what it makes of that state.
+#![tactic(auto)]
+
 ghost use Rattle.std.specs.Prelude.{◌≡◌, true, false, ◌⊎◌, ℕ, ◌+◌, ◌*◌, ◌/◌, ◌%◌, ◌<◌, ◌≤◌, ◌^◌, length, get_or, set};
 ghost use Rattle.grid.specs.Sheet.{size};
 ghost use Rattle.key_sort.specs.Order.{Sorted};

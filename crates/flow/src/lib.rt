@@ -3,6 +3,8 @@
 // a void a word of its own; then `levels` finds the other levels; then one scan looks for a cell without a word; and only when there is
 // none are codes written, row by row too. Proved by the certificate of `flow_laws`: the words that `levels` leaves hold the levels of the
 // definition, so the code of a flat cell is the choice among its equal neighbours one level lower.
+#![tactic(auto)]
+
 ghost use Rattle.std.specs.Prelude.{◌≡◌, true, false, cond, ℕ, suc, ◌+◌, ◌*◌, ◌/◌, ◌%◌, ◌<◌, ◌≤◌, ◌^◌, eqb, length, get_or, set};
 ghost use Rattle.grid.specs.Below.{table as table', first_below};
 ghost use Rattle.grid.specs.Sheet.{size, at, is_data, code_at};

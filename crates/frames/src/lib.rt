@@ -1,6 +1,8 @@
 // "The frames", printing, as upper-case text at the front of a lent buffer: an elevation sheet (header, rows), the four results of a sheet
 // (that of the filled sheet, then codes, counts, labels), and the line of a refusal. What is stored is the definition's text, byte for
 // byte, and the bytes past it are untouched: one run of stores after the other is one run.
+#![tactic(auto)]
+
 ghost use Rattle.std.specs.Prelude.{◌≤◌, length};
 ghost use Rattle.grid.specs.Sheet.{SixteenBits};
 ghost use Rattle.grid.specs.Frames.{text_length, header_text, elevation_text, result_text, refusal_text};

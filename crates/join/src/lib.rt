@@ -2,6 +2,8 @@
 // cell is of the set, `value` that it is joined; from the joined cells, which wait in a queue, each cell of mark 1 beside them is joined
 // too. The marks stand from `base` on, the queue from `half` on (`queue`). Proved by the state `Searching` of join_laws: no step changes
 // what the search comes to.
+#![tactic(auto)]
+
 ghost use Rattle.std.specs.Prelude.{◌≡◌, ◌+◌, ◌/◌, ◌%◌, ◌<◌, ◌≤◌, ◌^◌, length, get_or};
 ghost use Rattle.grid.specs.Sheet.{size};
 ghost use Rattle.cells.specs.Steps.{Inner, Offsets};

@@ -1,6 +1,8 @@
 // Labels from the marks at the front of a lent tail (`route_laws`, `specs/Receivers`), written to the result only when question 12 is
 // answered: "A no changes no result buffer". The labels call and the one call share this. The walk (crate `walk`) leaves each label raised
 // by n + 1 in place of the mark; what is left is to take that off again.
+#![tactic(auto)]
+
 ghost use Rattle.std.specs.Prelude.{◌≡◌, ℕ, ◌+◌, ◌-◌, ◌<◌, ◌≤◌, ◌^◌, length, get_or, take};
 ghost use Rattle.grid.specs.Below.{table};
 ghost use Rattle.route_laws.specs.Receivers.{Marks};

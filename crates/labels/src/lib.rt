@@ -1,6 +1,8 @@
 // The call `labels` of document 01: from a sheet of codes, of each cell "1 plus the number of the route's last cell". Questions 5 to 9,
 // then 11 and 12. The receivers of the codes go into the second half of the work buffer, where one walk down the routes finds their last
 // cells (crates `receivers`, `labelling`). The result is written when the last question is answered.
+#![tactic(auto)]
+
 ghost use Rattle.std.specs.Prelude.{◌≡◌, cond, ◌<◌, ◌≤◌, eqb, length};
 ghost use Rattle.grid.specs.Sheet.{size};
 ghost use Rattle.grid.specs.Routes.{labels as labels', first_endless};

@@ -6,6 +6,8 @@
 // border and on it in runs of their own, and the queue's loop is chosen once for a sheet: with every side open no flat cell lies on the
 // border (proofs/Within `flat-within`), and nothing is asked; only with closed sides is each queued cell. Proved by the certificate of
 // `flow_laws`: each loop keeps the state `Searching`.
+#![tactic(auto)]
+
 ghost use Rattle.std.specs.Prelude.{◌≡◌, true, false, cond, ℕ, ◌+◌, ◌*◌, ◌/◌, ◌%◌, ◌<◌, ◌≤◌, ◌^◌, length, get_or};
 ghost use Rattle.grid.specs.Sheet.{size, at, neighbour};
 ghost use Rattle.grid.specs.Directions.{is_equal};

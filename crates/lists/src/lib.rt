@@ -1,6 +1,8 @@
 // The call `check_lists` (document 02, Wish 6): number and place for two lists of cells. "after 6, 19 if a cell lies outside the sheet or
 // is no neighbour of the one before it, first list first, place the cell's position in its list, from 0". Two cells are neighbours exactly
 // if they are at most one row and one column apart and not one cell (`proofs/Beside.antt`), so that no place looks at all eight.
+#![tactic(auto)]
+
 ghost use Rattle.std.specs.Prelude.{◌≡◌, ◌||◌, ◌<◌, ◌^◌, eqb};
 ghost use Rattle.grid.specs.Endings.{first_stray};
 ghost use Rattle.grid.specs.Promises.{ListsPromise};

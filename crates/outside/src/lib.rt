@@ -2,6 +2,8 @@
 // included, to a void on an open side of the border". Marks stand in the last quarter of the work buffer, `Marked` of cells/specs/Marks.
 // Each void gets 1 and each data cell 0; then side by side the voids of the open sides get 2 and are queued; and `join` gives 2 to what
 // voids join to them. A sheet without voids needs no marks: `has_void` asks for that in one pass of a fixed few instructions a cell.
+#![tactic(auto)]
+
 ghost use Rattle.std.specs.Prelude.{◌≡◌, true, false, cond, ℕ, ◌+◌, ◌*◌, ◌/◌, ◌<◌, ◌≤◌, ◌^◌, length, get_or};
 ghost use Rattle.grid.specs.Sheet.{size, is_data, neighbour};
 ghost use Rattle.grid.specs.Outlet.{is_open, on_open_side};

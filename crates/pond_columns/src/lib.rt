@@ -2,6 +2,8 @@
 // that "hold filled elevation, cell count and volume". The first places are cleared, and one scan writes the numbers and adds each cell
 // to the place of its pond. No sum wraps, because a pond has fewer than 2^24 cells of a depth below 2^16. Proved by `Gathered` of
 // pond_laws. The elevations are handed on for the contracts alone.
+#![tactic(auto)]
+
 ghost use Rattle.std.specs.Prelude.{◌≡◌, ℕ, ◌-◌, ◌<◌, ◌≤◌, length, get_or};
 ghost use Rattle.grid.specs.Sheet.{size};
 ghost use Rattle.grid.specs.Fill.{filled};

@@ -2,6 +2,8 @@
 // wet, the filled key above the key. In a scan by rising cell number each wet cell without a number is the lowest of its pond, and `join`
 // gives the pond its mark, one more than its number. Proved by `specs/State`: at each cell of the scan the marks are those of pond_laws.
 // The elevations are handed on for the contracts alone.
+#![tactic(auto)]
+
 ghost use Rattle.std.specs.Prelude.{◌≡◌, cond, ◌+◌, ◌*◌, ◌/◌, ◌%◌, ◌<◌, ◌^◌, ltb, length, get_or};
 ghost use Rattle.grid.specs.Sheet.{size, SixteenBits};
 ghost use Rattle.fill.specs.Words.{Words};

@@ -1,5 +1,7 @@
 // The call `ponds` of document 02, "list the ponds": elevations to a sheet of pond numbers and three columns. After the flood 18 is
 // asked; then the ponds are numbered in the work buffer and 14 is asked, before a result is written.
+#![tactic(auto)]
+
 ghost use Rattle.std.specs.Prelude.{◌≡◌, length};
 ghost use Rattle.grid.specs.Sheet.{size, SixteenBits};
 ghost use Rattle.grid.specs.Checks.{ask_reach};

@@ -2,6 +2,8 @@
 // `count_on` goes through the sheet until a scan of `pour` is not full, and so knows the number of entries before anything is written;
 // `write_all` does the same and writes the entries of each scan after those of the one before.
 // Proved by `Between` of pour_laws: after each scan the first n entries are done, and the next scan gives those after them.
+#![tactic(auto)]
+
 ghost use Rattle.std.specs.Prelude.{◌≡◌, ◌+◌, ◌-◌, ◌/◌, ◌%◌, ◌<◌, ◌≤◌, length, get_or, pos};
 ghost use Rattle.grid.specs.Sheet.{size};
 ghost use Rattle.grid.specs.PourPoints.{pour_points};

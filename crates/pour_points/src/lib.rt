@@ -2,6 +2,8 @@
 // untouched." It asks 5 to 8 and 14. The first scan gives all entries if they are fewer than a batch has room for. Else scans count the
 // rest before anything is written ("A no changes no result buffer"), and scans write them all: for p entries one scan, or about 2 p /
 // 16,384 of them.
+#![tactic(auto)]
+
 ghost use Rattle.std.specs.Prelude.{◌≡◌, false, [], ◌∷◌, ◌<◌, length};
 ghost use Rattle.grid.specs.Sheet.{size};
 ghost use Rattle.grid.specs.Checks.{all_have};

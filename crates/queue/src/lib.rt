@@ -1,6 +1,8 @@
 // The queue of the searches: "the queue of waiting cells lies in the second half of the lent work buffer" (document 01). A cell is queued
 // in the step that stores its word, and `put` lends that half on to `push`. Proved by the law of a store into a lent tail (`grid_laws`,
 // `proofs/Parts`): of the whole buffer it is a store at the place after the queue.
+#![tactic(auto)]
+
 ghost use Rattle.std.specs.Prelude.{◌≡◌, ◌+◌, ◌<◌, ◌^◌, length, set};
 
 // Puts a cell at the end of the queue.

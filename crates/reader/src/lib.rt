@@ -1,6 +1,8 @@
 // The call `read`: a text of any bytes into rows, columns and a lent sheet of elevations. Questions 1, 2, 3, 4, 5, 6 and 8 are asked in
 // that order, each with its place; "A no changes no result buffer", and rows and columns are 0 beside it. Once all are answered, the
 // elevations are stored by `text_sheet`.
+#![tactic(auto)]
+
 ghost use Rattle.std.specs.Prelude.{◌≡◌, ◌≤◌};
 ghost use Rattle.grid.specs.Promises.{ReadPromise};
 ghost use Rattle.reader.specs.Parts.{text_check, size_check, without_size};

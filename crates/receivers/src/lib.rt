@@ -3,6 +3,8 @@
 // at a cell with code 0." The list is written into the lent tail. Tables by code, made once for a sheet, say what is a code and at which
 // offset its neighbour lies in the numbering, so only cells of the border look at rows and columns. Proof: each function gives one element
 // of the definition, and a loop collects them.
+#![tactic(auto)]
+
 ghost use Rattle.std.specs.Prelude.{◌≡◌, ◌++◌, ◌+◌, ◌*◌, ◌/◌, ◌%◌, ◌<◌, ◌≤◌, ◌^◌, length, drop};
 ghost use Rattle.grid.specs.Sheet.{size, position_of, neighbour};
 ghost use Rattle.grid.specs.Routes.{first_bad_code};

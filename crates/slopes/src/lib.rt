@@ -2,6 +2,8 @@
 // The comparison is one of products of 64 bits. The four corners are equally far, so are east and west, and north and south: the lowest of
 // each has its largest drop, and comparisons between these decide, for whole rows without a branch. Square cells, whose four sides are
 // equally far, have rows of their own, with one comparison and the distances of 1 by 1.
+#![tactic(auto)]
+
 ghost use Rattle.std.specs.Prelude.{◌≡◌, cond, ℕ, ◌+◌, ◌-◌, ◌*◌, ◌/◌, ◌%◌, ◌<◌, ◌≤◌, ◌^◌, length};
 ghost use Rattle.grid.specs.Sheet.{size, at};
 ghost use Rattle.grid.specs.Directions.{steepest_sum};

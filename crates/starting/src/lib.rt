@@ -2,6 +2,8 @@
 // the front of a lent tail, which say where each cell flows, one scan numbers the starts. "delta is the count of the cell flowed into
 // minus the cell's own": it is above the threshold where the one count is above the sum of the other and the threshold, in 64 bits, so
 // nothing wraps. `proofs/Starts` shows that these are the cells of the definition.
+#![tactic(auto)]
+
 ghost use Rattle.std.specs.Prelude.{◌≡◌, false, cond, ◌+◌, ◌<◌, ◌≤◌, ltb, length, set};
 ghost use Rattle.grid.specs.Below.{table, count_below};
 ghost use Rattle.starting.specs.Marked.{start_by, start_number};

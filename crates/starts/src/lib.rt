@@ -1,6 +1,8 @@
 // The call `starts` of document 01, Table 5: from codes, any sheet of counts and a threshold, the numbers of the starts. Questions 5 to 9,
 // then 11 and 12; the pass of `accumulation` answers 12 and leaves the receivers standing, from which `starting` numbers the cells when
 // all is answered.
+#![tactic(auto)]
+
 ghost use Rattle.std.specs.Prelude.{◌≡◌, ◌+◌, ◌<◌, ◌≤◌, length};
 ghost use Rattle.grid.specs.Sheet.{size};
 ghost use Rattle.grid.specs.Promises.{StartsPromise};

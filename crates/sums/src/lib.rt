@@ -1,4 +1,6 @@
 // Sums of 64 bits: "where a sum doesn't fit, it becomes the largest number" (document 02, Wish 12).
+#![tactic(auto)]
+
 ghost use Rattle.std.specs.Prelude.{◌≡◌};
 ghost use Rattle.grid.specs.Crews.{capped_sum};
 

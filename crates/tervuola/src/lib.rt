@@ -1,6 +1,8 @@
 // The C interface: "Our planning screen, written in C, calls the program with its own buffers". Thin entry points on numbers and slices
 // over the proved calls, each with the promise of the call behind it. A slice crosses as a pointer and a number of elements; structs come
 // back by value.
+#![tactic(auto)]
+
 ghost use Rattle.grid.specs.Sheet.{grid_of, closed_grid, shaped_grid};
 ghost use Rattle.grid.specs.Promises.{CollectPromise, CountsPromise, CulvertsPromise, DirectionsPromise, DrainPromise, FillPromise};
 ghost use Rattle.grid.specs.Promises.{HandInPromise, LabelsPromise, ListsPromise, PartPromise, PondsPromise, PourPointsPromise};

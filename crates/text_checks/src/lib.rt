@@ -1,6 +1,8 @@
 // Questions 2 and 3 about a text: "Is every byte a digit 0–9, A–F, a–f or a line feed?", with the place of the first that isn't, and "Is
 // it a line of 4 digits for rows and 4 for columns, then exactly that many lines of 4 digits for each column, each line ended by one line
 // feed, and nothing more?". Each is one loop of the cursor over the bytes, and a test of each byte.
+#![tactic(auto)]
+
 ghost use Rattle.std.specs.Prelude.{◌≡◌, ◌≤◌, length};
 ghost use Rattle.grid.specs.Frames.{is_text_byte, first_bad_byte, ends_line, is_shaped};
 ghost use Rattle.text_checks.specs.Shape.{is_placed, feeds_end_lines, HeaderRead};

@@ -2,6 +2,8 @@
 // on, with the next place handed on. The contract of each says which run of bytes is stored (`Put`), so a line is the join of its cells
 // and a sheet the join of its lines, as in the definition of the text. What a lent slice of elevations holds are numbers of 16 bits; the
 // steps that read them say so.
+#![tactic(auto)]
+
 ghost use Rattle.std.specs.Prelude.{◌≡◌, ◌+◌, ◌*◌, ◌<◌, ◌≤◌, length, get_or};
 ghost use Rattle.grid.specs.Sheet.{size, at, SixteenBits, IsElevation};
 ghost use Rattle.grid.specs.Frames.{upper_digit, to_twos, hex_text, sheet_text};

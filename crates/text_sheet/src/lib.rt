@@ -1,6 +1,8 @@
 // The elevations of a text that has passed question 3, stored at the front of a lent sheet: "a sheet read from text: at least as many,
 // places past them untouched". The cursor goes from number to number and from line to line; a line stores a run of elevations, and the
 // runs of the lines are the definition's sheet.
+#![tactic(auto)]
+
 ghost use Rattle.std.specs.Prelude.{◌≡◌, ◌++◌, ◌+◌, ◌*◌, ◌≤◌, length, drop};
 ghost use Rattle.grid.specs.Sheet.{size};
 ghost use Rattle.grid.specs.Frames.{text_grid, text_length, text_sheet};

@@ -1,6 +1,8 @@
 // The calls `hand_in`, `run` and `collect` (document 02, Wish 8): "Thirty-two crews, numbered 0 to 31, hand in a cell each and later
 // collect the outlet it drains to." The state is an array that the caller lends, and every content of it is a state: no call relies on
 // another one having made it. The questions come first, and nothing is stored before the last of them is answered.
+#![tactic(auto)]
+
 ghost use Rattle.std.specs.Prelude.{◌≡◌, not, ◌&&◌, ◌<◌};
 ghost use Rattle.grid.specs.Routes.{has_code};
 ghost use Rattle.grid.specs.Checks.{accepted};

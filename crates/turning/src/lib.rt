@@ -2,6 +2,8 @@
 // finishes it at its last cell; with no trace, or a finished one, it does nothing." The state is the array that the caller lends, and each
 // function stores what the definition of its step says. An array that is lent has no length that a proof could use, so that the contracts
 // are equations of lists of any length.
+#![tactic(auto)]
+
 ghost use Rattle.std.specs.Prelude.{◌≡◌, true, min, ◌+◌, ◌<◌, set};
 ghost use Rattle.grid.specs.Routes.{has_code, receiver};
 ghost use Rattle.grid.specs.Crews.{finished, stands_on, largest, counted, stepped, turn_of, turn, turns};

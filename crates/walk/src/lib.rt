@@ -6,6 +6,8 @@
 // what one step finds. Then from each start in turn it goes down to the first cell that has a result or is the route's end, then goes down
 // again and writes. A walk of more than n steps has met a ring, so its start is the first endless cell: those before it have results. That
 // a walk's steps are the route's is a law (`route_laws`, `proofs/Walking`).
+#![tactic(auto)]
+
 ghost use Rattle.std.specs.Prelude.{true, false, ◌+◌, ◌<◌, ◌≤◌, ◌^◌, length, get_or, take};
 ghost use Rattle.route_laws.specs.Receivers.{Marks};
 ghost use Rattle.route_laws.specs.Walking.{Descent, Settled, Stepped, Lifted, WalkedTo, Walked, WalkedOn};

@@ -2,6 +2,8 @@
 // the end of its route, so that the walk (crate `walk`) finds the first start or, where there is none, the route's last cell; the
 // watershed is the start there. That this is the definition is a law (`route_laws`, `proofs/Starts`). Questions 11 to 13 and 24 are
 // answered here too, by way of the same tail.
+#![tactic(auto)]
+
 ghost use Rattle.std.specs.Prelude.{◌≡◌, cond, ◌&&◌, ◌++◌, ℕ, ◌+◌, ◌-◌, ◌*◌, ◌<◌, ◌≤◌, ◌^◌, eqb, ltb, length, get_or, take, drop, set};
 ghost use Rattle.grid.specs.Below.{table};
 ghost use Rattle.grid.specs.Sheet.{size};

@@ -1,6 +1,8 @@
 // The call `watersheds` of document 01: from codes and starts, of each cell "the label of the first start on its route, itself included,
 // else 0". Questions 5 to 9, then 11 to 13, 24 and the watersheds by way of the second half of the work buffer (crate `watershed_walk`).
 // The result is written when the last question is answered.
+#![tactic(auto)]
+
 ghost use Rattle.std.specs.Prelude.{◌≡◌, ◌*◌, ◌≤◌, length};
 ghost use Rattle.grid.specs.Sheet.{size};
 ghost use Rattle.grid.specs.Routes.{watersheds as watersheds'};

@@ -2,6 +2,8 @@
 // that order; "A no changes no result buffer", and the length reported beside it is 0. After a yes to all of them `frames` stores the
 // text. The promise has it that what is stored reads back: the law about texts (`writing_laws`) asks for elevations of 16 bits, which the
 // printing has seen each of them to be.
+#![tactic(auto)]
+
 ghost use Rattle.std.specs.Prelude.{◌≡◌, [], ◌∷◌, ◌≤◌, leb};
 ghost use Rattle.grid.specs.Sheet.{size};
 ghost use Rattle.grid.specs.Checks.{refusal, accepted, ask, ask_sheets};

@@ -1,7 +1,6 @@
 -- Words of 0, then the donors, then the scan: each begins where the one before ended.
 use Rattle.accumulation.proofs.Stores.{kept_roomy, kept_twice, same_few}
 use Rattle.accumulation.proofs.Walk.{again_between, begins, scanned_after}
-use borrow.Author.Rules.{rules}
 use Rattle.accumulation.proofs.accumulate.Goals as goal
 
 pub count_donors-requires : goal.count_donors-requires

@@ -1,7 +1,6 @@
 -- One store, or none where the mark is no cell.
 use native.Mathlib.Omega.{arith}
 use Rattle.accumulation.proofs.Stores.{donor_none, donor_one}
-use borrow.Author.Rules.{rules}
 use Rattle.accumulation.proofs.add_donor.Goals as goal
 
 pub returns-then-next-n : goal.returns-then-next-n

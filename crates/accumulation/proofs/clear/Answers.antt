@@ -1,10 +1,7 @@
 -- The words below i are 0; marks and length are kept.
-use mathlib.Core.Path.{◌≡◌}
-use Prim.Native.Nat.{ℕ, ◌+◌, ◌-◌, ◌≤◌, ◌<◌}
+use Prim.Native.Nat.{◌+◌, ◌-◌, ◌≤◌}
 use native.Mathlib.Omega.{arith}
-use borrow.Author.Rules.{rules}
 use lib.ListN.{length}
-use Rattle.accumulation.specs.Tail.{word_at, Kept}
 use Rattle.accumulation.proofs.Stores.{kept_none, kept_store, cleared_more}
 use Rattle.accumulation.proofs.clear.Goals as goal
 

@@ -1,7 +1,6 @@
 -- The donors among the cells below d are counted; at most eight each, so a word has room.
 use Prim.Native.Nat.{◌-◌}
-use native.Mathlib.Omega.{arith}
-use Rattle.accumulation.proofs.Stores.{DonorsFrom, donors_start, donors_turn, donors_end, kept_roomy, donor_fits}
+use Rattle.accumulation.proofs.Stores.{DonorsFrom}
 use Rattle.accumulation.proofs.count_donors.Given as goal
 
 abbrev pub invariant-loop-d : goal.invariant-loop-d

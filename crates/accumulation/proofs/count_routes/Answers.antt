@@ -1,6 +1,5 @@
 -- None left: every route ends, and the words hold the counts. Some left: some route does not end, and the walk says which is the first.
 use Rattle.accumulation.proofs.Routes.{all_counted, long_after, marks_after, some_endless}
-use borrow.Author.Rules.{rules}
 use Rattle.accumulation.proofs.count_routes.Goals as goal
 
 pub returns-then-left-eq0 : goal.returns-then-left-eq0

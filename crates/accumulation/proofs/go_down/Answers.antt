@@ -1,6 +1,5 @@
 -- The invariant is `Going`: the pass, with one cell in hand that awaits nothing. Each turn leaves one cell less, which is the measure.
 use native.Mathlib.Omega.{arith}
-use Rattle.accumulation.specs.Tail.{Going}
 use Rattle.accumulation.proofs.Stores.{kept_roomy}
 use Rattle.accumulation.proofs.Walk.{is_ready, some_left, down_starts, down_turn, down_ends}
 use Rattle.accumulation.proofs.go_down.Goals as goal

@@ -2,7 +2,6 @@
 use native.Mathlib.Omega.{arith}
 use lib.ListN.{length-set}
 use Rattle.accumulation.proofs.Walk.{closes, hands, goes_on, stops, word_awaits, word_waits}
-use borrow.Author.Rules.{rules}
 use Rattle.accumulation.proofs.pass.Goals as goal
 
 pub returns-then-next-n : goal.returns-then-next-n

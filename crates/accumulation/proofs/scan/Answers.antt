@@ -2,7 +2,7 @@
 use Prim.Native.Nat.{◌-◌}
 use native.Mathlib.Omega.{arith}
 use Rattle.accumulation.proofs.Stores.{kept_roomy}
-use Rattle.accumulation.proofs.Walk.{Scanning, scan_starts, scan_turn, scan_ends, again_between}
+use Rattle.accumulation.proofs.Walk.{scan_starts, scan_turn, scan_ends, again_between}
 use Rattle.accumulation.proofs.scan.Goals as goal
 
 pub loop-i-init : goal.loop-i-init

@@ -1,8 +1,6 @@
 -- Every cell below i is settled, and a walk keeps it so.
 use Prim.Native.Nat.{◌-◌}
-use native.Mathlib.Omega.{arith}
-use Rattle.accumulation.proofs.Stores.{kept_roomy}
-use Rattle.accumulation.proofs.Walk.{Scanning, scan_starts, scan_turn, scan_ends, again_between}
+use Rattle.accumulation.proofs.Walk.{Scanning}
 use Rattle.accumulation.proofs.scan.Given as goal
 
 abbrev pub invariant-loop-i : goal.invariant-loop-i

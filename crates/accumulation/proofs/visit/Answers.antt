@@ -1,6 +1,5 @@
 -- A cell that waits or is done is settled already; any other begins a walk.
 use Rattle.accumulation.proofs.Walk.{settled_already}
-use borrow.Author.Rules.{rules}
 use Rattle.accumulation.proofs.visit.Goals as goal
 
 pub returns-then-tail-n-ge-UNIT : goal.returns-then-tail-n-ge-UNIT

@@ -1,4 +1,3 @@
-use borrow.Author.Rules.{rules}
 use Rattle.cells.proofs.Steps.{table, col_entry}
 use Rattle.cells.proofs.col_step.Goals as goal
 

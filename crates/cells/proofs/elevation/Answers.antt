@@ -1,4 +1,3 @@
-use borrow.Author.Rules.{rules}
 use Rattle.cells.proofs.Words.{diff_fits, narrow, diff_is}
 use Rattle.cells.proofs.elevation.Goals as goal
 

@@ -1,4 +1,3 @@
-use borrow.Author.Rules.{rules}
 use mathlib.Core.Path.{refl}
 use Rattle.grid_laws.proofs.Tests.{true_false}
 use Rattle.cells.proofs.is_inner.Goals as goal

@@ -1,5 +1,4 @@
 use Rattle.cells.proofs.Codes.{side_above, corner_shut, straight_by}
-use borrow.Author.Rules.{rules}
 use Rattle.cells.proofs.is_open.Goals as goal
 
 pub returns-then-p-eq0 : goal.returns-then-p-eq0

@@ -1,6 +1,5 @@
 use native.Mathlib.Omega.{arith}
 use mathlib.Core.Path.{refl}
-use borrow.Author.Rules.{rules}
 use Rattle.grid_laws.proofs.Widths.{wide}
 use Rattle.grid_laws.proofs.Cells.{word_void, word_top}
 use Rattle.cells.proofs.Words.{sum_fits, sum_is, word_small}

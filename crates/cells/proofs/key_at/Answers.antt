@@ -1,4 +1,3 @@
-use borrow.Author.Rules.{rules}
 use mathlib.Core.Path.{◌≡◌, subst}
 use lib.ListN.{get_or}
 use lib.IntN.{pos}

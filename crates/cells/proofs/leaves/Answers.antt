@@ -5,12 +5,11 @@ use Prim.Native.Nat.{ℕ, ◌+◌}
 use native.Mathlib.Omega.{arith}
 use lib.Dec.{eqb}
 use lib.ListN.{get_or}
-use Rattle.grid.specs.Sheet.{is_data, neighbour}
+use Rattle.grid.specs.Sheet.{is_data}
 use Rattle.grid_laws.proofs.Neighbours.{neighbour_≤}
 use Rattle.grid_laws.proofs.Outlets.{leaves_off}
 use Rattle.cells.proofs.Keys.{data_by_key, zero_no_data}
 use Rattle.cells.proofs.Codes.{leaves_data, leaves_mark}
-use borrow.Author.Rules.{rules}
 use Rattle.cells.proofs.leaves.Goals as goal
 
 pub returns-then-m-elevations : goal.returns-then-m-elevations

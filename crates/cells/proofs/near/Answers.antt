@@ -1,4 +1,3 @@
-use borrow.Author.Rules.{rules}
 use Rattle.cells.proofs.near.Goals as goal
 
 pub beside-requires : goal.beside-requires

@@ -3,7 +3,6 @@ use mathlib.Core.Path.{refl}
 use mathlib.Core.Logic.{inl, inr}
 use Prim.Native.Nat.{◌/◌, ◌%◌}
 use native.Mathlib.Omega.{arith}
-use borrow.Author.Rules.{rules}
 use Rattle.grid_laws.proofs.Neighbours.{cols_positive}
 use Rattle.cells.specs.Steps.{right_of}
 use Rattle.cells.proofs.Steps.{Placed, row_below, col_below, rows_small, cols_small, down_3, right_3, off_is, in_is, in_small}

@@ -3,7 +3,7 @@ use mathlib.Core.Path.{refl}
 use Prim.Native.Nat.{◌-◌}
 use native.Mathlib.Omega.{arith}
 use Rattle.cells.specs.Steps.{right_of}
-use Rattle.cells.proofs.Steps.{OffsetsTo, offsets_none, offsets_more, offset_small}
+use Rattle.cells.proofs.Steps.{offsets_none, offsets_more, offset_small}
 use Rattle.cells.proofs.offsets.Goals as goal
 
 pub loop-p-init : goal.loop-p-init

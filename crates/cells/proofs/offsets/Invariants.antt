@@ -1,9 +1,6 @@
 -- Position by position, as the table of steps has them.
-use mathlib.Core.Path.{refl}
 use Prim.Native.Nat.{◌-◌}
-use native.Mathlib.Omega.{arith}
-use Rattle.cells.specs.Steps.{right_of}
-use Rattle.cells.proofs.Steps.{OffsetsTo, offsets_none, offsets_more, offset_small}
+use Rattle.cells.proofs.Steps.{OffsetsTo}
 use Rattle.cells.proofs.offsets.Given as goal
 
 abbrev pub invariant-loop-p : goal.invariant-loop-p

@@ -1,4 +1,3 @@
-use borrow.Author.Rules.{rules}
 use Rattle.cells.proofs.Steps.{table, row_entry}
 use Rattle.cells.proofs.row_step.Goals as goal
 

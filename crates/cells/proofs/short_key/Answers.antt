@@ -2,7 +2,6 @@ use mathlib.Core.Path.{◌≡◌, subst}
 use mir.Syntax.{w16}
 use mir.Val.{to_z, of_z}
 use mir.Facts.{to_z-of_z}
-use borrow.Author.Rules.{rules}
 use Rattle.cells.proofs.Keys.{Known}
 use Rattle.cells.proofs.short_key.Goals as goal
 

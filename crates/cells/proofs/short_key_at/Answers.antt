@@ -6,7 +6,6 @@ use mir.Val.{to_z, of_z}
 use mir.Facts.{to_z-of_z}
 use borrow.Author.Rules.{sfits_of}
 use Rattle.cells.proofs.Keys.{Known, known_read}
-use borrow.Author.Rules.{rules}
 use Rattle.cells.proofs.short_key_at.Goals as goal
 
 pub returns : goal.returns

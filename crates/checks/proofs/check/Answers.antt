@@ -1,7 +1,6 @@
 -- 5 to 8, and then 9.
 use mathlib.Core.Path.{◌∙◌}
 use native.Mathlib.Omega.{arith}
-use borrow.Author.Rules.{rules}
 use Rattle.grid.specs.Checks.{accepted, refusal, ask_work}
 use Rattle.checks.proofs.Gate.{passed, answered_no, is_accepted_lem, next_no, next_yes}
 use Rattle.checks.proofs.Asked.{says_no, says_yes, sheets_gate}

@@ -1,6 +1,5 @@
 -- 5, 6, 17 and 20, and then 7 to 9 as for any sheets.
 use mathlib.Core.Path.{◌∙◌}
-use borrow.Author.Rules.{rules}
 use Rattle.checks.proofs.Gate.{passed, answered_no, answered_yes}
 use Rattle.checks.proofs.Asked.{description_gate, size_passes, flow_asked, lengths_asked, four_results}
 use Rattle.checks.proofs.check_flow.Goals as goal

@@ -1,6 +1,5 @@
 -- 5, 6 and 17, then 20.
 use mathlib.Core.Path.{◌∙◌}
-use borrow.Author.Rules.{rules}
 use Rattle.grid.specs.Checks.{accepted, refusal}
 use Rattle.checks.proofs.Gate.{answered_no, is_accepted_lem, next_no, next_yes}
 use Rattle.checks.proofs.Asked.{says_no, says_yes, size_and_sides_gate, shape_asked}

@@ -1,7 +1,6 @@
 -- 5 and 6, and then 7.
 use mathlib.Core.Path.{◌∙◌}
 use native.Mathlib.Omega.{arith}
-use borrow.Author.Rules.{rules}
 use Rattle.grid.specs.Checks.{accepted, refusal}
 use Rattle.checks.proofs.Gate.{passed, answered_no, is_accepted_lem, next_no, next_yes}
 use Rattle.checks.proofs.Asked.{says_no, says_yes, size_gate, inputs_asked}

@@ -1,7 +1,6 @@
 -- Each way out by its test.
 use mathlib.Core.Path.{sym, ◌∙◌, ap}
 use mathlib.Core.Bool.{Bool, ◌&&◌}
-use borrow.Author.Rules.{rules}
 use Rattle.grid_laws.proofs.Tests.{and_false_left}
 use Rattle.grid.specs.Checks.{in_shape}
 use Rattle.checks.proofs.Asked.{says_no, says_yes}

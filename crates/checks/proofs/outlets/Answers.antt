@@ -1,6 +1,5 @@
 -- 5, 6 and 17, and then 7 and 8 as for any sheets.
 use mathlib.Core.Path.{◌∙◌}
-use borrow.Author.Rules.{rules}
 use Rattle.checks.proofs.Gate.{passed, answered_no, answered_yes}
 use Rattle.checks.proofs.Asked.{size_and_sides_gate, size_passes, sides_asked, lengths_asked, four_results}
 use Rattle.checks.proofs.outlets.Goals as goal

@@ -1,5 +1,4 @@
 -- Each way out by the tests that led there.
-use borrow.Author.Rules.{rules}
 use Rattle.grid.specs.Checks.{ask_size}
 use Rattle.checks.proofs.Asked.{says_no, says_yes}
 use Rattle.std.proofs.lemmas.Bool.{not_from_false, not_from_true}

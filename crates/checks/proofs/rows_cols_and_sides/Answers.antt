@@ -1,6 +1,5 @@
 -- 5 and 6, then 17.
 use mathlib.Core.Path.{◌∙◌}
-use borrow.Author.Rules.{rules}
 use borrow.Author.Tests.{le-leb, lt-leb}
 use Rattle.grid.specs.Checks.{accepted, refusal, ask_sides}
 use Rattle.checks.proofs.Gate.{answered_no, is_accepted_lem, next_no, next_yes}

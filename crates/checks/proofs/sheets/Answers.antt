@@ -1,8 +1,6 @@
 -- 5 to 7, and then 8.
 use mathlib.Core.Path.{◌∙◌}
-use mathlib.Core.List.{[]}
 use native.Mathlib.Omega.{arith}
-use borrow.Author.Rules.{rules}
 use Rattle.grid.specs.Checks.{accepted, refusal}
 use Rattle.checks.proofs.Gate.{passed, answered_no, is_accepted_lem, next_no, next_yes}
 use Rattle.checks.proofs.Asked.{says_no, says_yes, sheets_gate, results_asked}

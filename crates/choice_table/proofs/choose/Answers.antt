@@ -1,5 +1,4 @@
 use Rattle.choice_table.proofs.Entries.{choice_at}
-use borrow.Author.Rules.{rules}
 use Rattle.choice_table.proofs.choose.Goals as goal
 
 pub returns : goal.returns

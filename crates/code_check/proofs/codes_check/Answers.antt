@@ -1,5 +1,4 @@
 -- Each no is the answer of its question; after the last yes there is none.
-use borrow.Author.Rules.{rules}
 use Rattle.receivers.proofs.Codes.{all_codes}
 use Rattle.code_check.proofs.Answers.{answer_11, none_bad, answer_12, answer_yes}
 use Rattle.code_check.proofs.codes_check.Goals as goal

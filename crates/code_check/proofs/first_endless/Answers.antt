@@ -2,7 +2,6 @@
 use mathlib.Core.Path.{◌∙◌}
 use native.Mathlib.Omega.{arith}
 use lib.ListN.{drop}
-use borrow.Author.Rules.{rules}
 use Rattle.grid.specs.Sheet.{size}
 use Rattle.labelling.proofs.Sheet.{marks, first_endless_lem}
 use Rattle.code_check.proofs.first_endless.Goals as goal

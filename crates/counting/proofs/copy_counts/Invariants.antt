@@ -1,9 +1,6 @@
 -- The first i results are the counts of their words.
 use Prim.Native.Nat.{◌-◌, ◌≤◌}
-use mathlib.Core.Path.{refl}
-use native.Mathlib.Omega.{arith}
-use borrow.Author.Rules.{rules}
-use Rattle.counting.proofs.Copies.{CopiedTo, copied_none, copied_more, copied_all}
+use Rattle.counting.proofs.Copies.{CopiedTo}
 use Rattle.counting.proofs.copy_counts.Given as goal
 
 abbrev pub invariant-loop-i : goal.invariant-loop-i

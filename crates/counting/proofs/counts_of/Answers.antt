@@ -1,6 +1,5 @@
 -- The result is written only behind the answer n.
 use Rattle.counting.proofs.Copies.{no_counts, all_counts}
-use borrow.Author.Rules.{rules}
 use Rattle.counting.proofs.counts_of.Goals as goal
 
 pub returns-then-first-n : goal.returns-then-first-n

@@ -3,7 +3,6 @@ use native.Mathlib.Omega.{arith}
 use lib.ListN.{drop}
 use Rattle.grid.specs.Sheet.{size}
 use Rattle.counting.proofs.Sheet.{ready_to_count, sheet_counts}
-use borrow.Author.Rules.{rules}
 use Rattle.counts.proofs.counts_into.Goals as goal
 
 pub receivers_from-requires : goal.receivers_from-requires

@@ -1,7 +1,6 @@
 -- No bad entry, or the first one, by what its cell holds.
 use native.Mathlib.Omega.{arith}
 use lib.ListN.{get_or}
-use borrow.Author.Rules.{rules}
 use Rattle.cells.proofs.Keys.{zero_no_data, data_by_key}
 use Rattle.culvert_entries.proofs.Asked.{none_refused, refused_15, refused_16}
 use Rattle.culvert_entries.proofs.check.Goals as goal

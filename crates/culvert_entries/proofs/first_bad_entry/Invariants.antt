@@ -1,11 +1,7 @@
 -- A walk along the list: no entry before the place k is bad.
-use mathlib.Core.Path.{◌∙◌}
 use Prim.Native.Nat.{◌-◌, ◌≤◌}
-use native.Mathlib.Omega.{arith}
 use lib.ListN.{length}
-use borrow.Author.Count.{below_more}
-use borrow.Author.Rules.{rules}
-use Rattle.culvert_entries.proofs.Asked.{tested, GoodTo, bad_found, none_found}
+use Rattle.culvert_entries.proofs.Asked.{GoodTo}
 use Rattle.culvert_entries.proofs.first_bad_entry.Given as goal
 
 abbrev pub invariant-loop-k : goal.invariant-loop-k

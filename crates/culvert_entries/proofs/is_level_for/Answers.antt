@@ -1,6 +1,5 @@
 -- Each way out by its test of the level's key.
 use mathlib.Core.Path.{sym}
-use borrow.Author.Rules.{rules}
 use Rattle.culvert_entries.proofs.Asked.{void_level, level_test}
 use Rattle.culvert_entries.proofs.is_level_for.Goals as goal
 

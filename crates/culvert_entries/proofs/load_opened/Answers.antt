@@ -1,17 +1,14 @@
 -- The keys of the elevations, and then the first k entries opened.
 use Prim.Native.Nat.{◌-◌}
-use mathlib.Core.Path.{◌≡◌, refl, ◌∙◌}
+use mathlib.Core.Path.{refl, ◌∙◌}
 use native.Mathlib.Omega.{arith}
-use lib.ListN.{length}
-use borrow.Author.Rules.{rules}
 use Rattle.culvert_laws.proofs.Opened.{all_good}
-use Rattle.culvert_entries.proofs.Loaded.{OpenedIn, opened_none, entry_on, opened_more, opened_all}
+use Rattle.culvert_entries.proofs.Loaded.{opened_none, entry_on, opened_more, opened_all}
 use Rattle.culvert_entries.proofs.load_opened.Goals as goal
 
 pub loop-k-init : goal.loop-k-init
 loop-k-init c =
-    let a = c.args in
-    (
+    let a = c.args in (
       refl,
       opened_none a.elevations.now a.cells.now a.levels.now c.load.new.work (let q = c.load.auto.work in omega (arith, c.requires.elevations_in_bounds))
           c.load.ensures.by_index c.load.ensures.sixteen_bits,

@@ -1,11 +1,8 @@
 -- The keys of the elevations, and then the first k entries opened.
 use Prim.Native.Nat.{◌-◌}
-use mathlib.Core.Path.{◌≡◌, refl, ◌∙◌}
-use native.Mathlib.Omega.{arith}
+use mathlib.Core.Path.{◌≡◌}
 use lib.ListN.{length}
-use borrow.Author.Rules.{rules}
-use Rattle.culvert_laws.proofs.Opened.{all_good}
-use Rattle.culvert_entries.proofs.Loaded.{OpenedIn, opened_none, entry_on, opened_more, opened_all}
+use Rattle.culvert_entries.proofs.Loaded.{OpenedIn}
 use Rattle.culvert_entries.proofs.load_opened.Given as goal
 
 abbrev pub invariant-loop-k : goal.invariant-loop-k

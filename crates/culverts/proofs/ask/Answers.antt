@@ -1,6 +1,5 @@
 -- Up to 9, then 15 and 16.
 use mathlib.Core.Path.{◌∙◌}
-use borrow.Author.Rules.{rules}
 use Rattle.grid.specs.Checks.{of_located}
 use Rattle.culverts.proofs.Promise.{sized_no, one_length, entries_asked}
 use Rattle.culverts.proofs.ask.Goals as goal

@@ -1,5 +1,4 @@
 -- 5, 6, 17 and 20, then 7 of the two lists, then 7 to 9 as for any sheets.
-use borrow.Author.Rules.{rules}
 use Rattle.culverts.proofs.Promise.{description_no, unlike_lists, sheets_asked}
 use Rattle.culverts.proofs.ask_lengths.Goals as goal
 

@@ -1,6 +1,5 @@
 -- The questions, and after a yes the four results of the opened sheet.
 use lib.ListN.{length}
-use borrow.Author.Rules.{rules}
 use Rattle.grid.specs.Checks.{of_located}
 use Rattle.culverts.proofs.Promise.{passed_16, promise_of_no, promise_of_yes}
 use Rattle.culverts.proofs.culverts.Goals as goal

@@ -3,7 +3,6 @@ use mathlib.Core.Path.{sym, ◌∙◌, ap, subst}
 use mathlib.Core.List.{List}
 use native.Mathlib.Omega.{arith}
 use lib.IntN.{ℤ}
-use borrow.Author.Rules.{rules}
 use Rattle.grid.specs.Checks.{accepted, ask_reach}
 use Rattle.drainage.specs.Results.{Measured}
 use Rattle.drainage.proofs.Four.{four_of}
@@ -27,7 +26,7 @@ drain_loaded-requires c =
       elevations_len = c.requires.elevations_len;
       are_keys = opened_keys a.g a.elevations.now a.cells.now a.levels.now c.load_opened.new.work c.requires.elevations_len L;
       same_voids = opened_voids a.g a.elevations.now a.cells.now a.levels.now c.load_opened.new.work c.requires.elevations_len L
-              c.requires.levels_value;
+          c.requires.levels_value;
     }
 
 pub returns : goal.returns

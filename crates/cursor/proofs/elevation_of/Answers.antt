@@ -1,7 +1,6 @@
 -- `cursor::elevation_of`: each range of numbers has its case of `from_twos`.
 use mathlib.Core.Path.{sym}
 use Rattle.text_laws.proofs.Words.{low, highest, difference_fits, narrow, difference_is}
-use borrow.Author.Rules.{rules}
 use Rattle.cursor.proofs.elevation_of.Reads as reads
 use Rattle.cursor.proofs.elevation_of.Lts as lts
 use Rattle.cursor.proofs.elevation_of.Goals as goal

@@ -2,7 +2,6 @@
 use mathlib.Core.Path.{sym}
 use native.Mathlib.Omega.{arith}
 use Rattle.text_laws.proofs.Values.{below_digits, of_digit, below_upper, of_upper, below_lower, of_lower, above_lower}
-use borrow.Author.Rules.{rules}
 use Rattle.cursor.proofs.hex_value.Reads as reads
 use Rattle.cursor.proofs.hex_value.Lts as lts
 use Rattle.cursor.proofs.wide.Reads as wide-reads

@@ -5,7 +5,6 @@ use Prim.Native.Nat.{ℕ, ◌+◌, ◌/◌}
 use native.Mathlib.Omega.{arith}
 use Rattle.grid.specs.Sheet.{size}
 use Rattle.cells.specs.Marks.{Marked}
-use borrow.Author.Rules.{rules}
 use Rattle.directions.proofs.Promise.{refused_promise, accepted_sizes, lacking_promise, accepted_promise}
 use Rattle.directions.proofs.directions.Goals as goal
 

@@ -3,7 +3,6 @@ use mathlib.Core.Path.{sym, ◌∙◌, ap}
 use native.Mathlib.Omega.{arith}
 use Rattle.grid.specs.Checks.{refusal}
 use Rattle.checks.proofs.Questions.{stranded_≤, reach_no, reach_yes}
-use borrow.Author.Rules.{rules}
 use Rattle.directions.proofs.lacking.Goals as goal
 
 pub returns-then-stranded-elevations : goal.returns-then-stranded-elevations

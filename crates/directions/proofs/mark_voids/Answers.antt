@@ -1,8 +1,5 @@
 use native.Mathlib.Omega.{arith}
-use borrow.Author.Tests.{not-true}
 use Rattle.fill.proofs.Voids.{full_marked}
-use borrow.Author.Rules.{rules}
-use Rattle.std.proofs.lemmas.Bool.{not_from_false}
 use Rattle.directions.proofs.mark_voids.Goals as goal
 
 pub returns-then-not-has_void : goal.returns-then-not-has_void

@@ -1,6 +1,5 @@
 -- `drain_text::drain_into`: after a yes the one call's results are the definition's, and so is their text; its no is its line.
 use Rattle.drain_text.proofs.Program.{results_fit, results_printed, refusal_printed}
-use borrow.Author.Rules.{rules}
 use Rattle.drain_text.proofs.drain_into.Goals as goal
 
 pub returns-then-answer-ne0 : goal.returns-then-answer-ne0

@@ -4,7 +4,6 @@ use Prim.Native.Nat.{◌≤◌}
 use native.Mathlib.Omega.{arith}
 use lib.ListN.{length}
 use lib.Seq.{length-take-le}
-use borrow.Author.Rules.{rules}
 use Rattle.drain_text.proofs.drain_sheet.Goals as goal
 
 pub slice_bounds-drain_into-end : goal.slice_bounds-drain_into-end

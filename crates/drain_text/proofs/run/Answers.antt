@@ -3,7 +3,6 @@ use mathlib.Core.Path.{refl, sym}
 use native.Mathlib.Omega.{arith}
 use lib.Seq.{length-take-le}
 use Rattle.drain_text.proofs.Program.{read_small, refused, drained}
-use borrow.Author.Rules.{rules}
 use Rattle.drain_text.proofs.run.Goals as goal
 
 pub returns-then-number-ne0 : goal.returns-then-number-ne0

@@ -4,7 +4,6 @@ use mathlib.Core.List.{List}
 use native.Mathlib.Omega.{arith}
 use lib.ListN.{length}
 use lib.IntN.{ℤ}
-use borrow.Author.Rules.{rules}
 use Rattle.grid.specs.Checks.{accepted, ask_reach}
 use Rattle.fill.proofs.Words.{loaded_keys, loaded_sheet}
 use Rattle.fill.proofs.Voids.{loaded_voids}

@@ -10,7 +10,6 @@ use Rattle.fill.specs.Words.{sheet_in}
 use Rattle.fill.proofs.Words.{sheet_length, sheet_sixteen}
 use Rattle.drainage.proofs.Four.{stranded_four, four_of_yes}
 use Rattle.drainage.proofs.Steps.{filled_marked, reach, fills, codes_right, routable}
-use borrow.Author.Rules.{rules}
 use Rattle.drainage.proofs.drain_loaded.Goals as goal
 
 pub fill_loaded-first-requires : goal.fill_loaded-first-requires

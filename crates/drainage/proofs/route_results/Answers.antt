@@ -1,7 +1,6 @@
 use native.Mathlib.Omega.{arith}
 use lib.ListN.{length}
 use Rattle.drainage.proofs.Routed.{ready, ready_to_label, counts_right, labels_right}
-use borrow.Author.Rules.{rules}
 use Rattle.drainage.proofs.route_results.Reads as reads
 use Rattle.drainage.proofs.route_results.Lts as lts
 use Rattle.counting.proofs.counts_of.Reads as counts-of-reads

@@ -4,7 +4,6 @@ use Prim.Native.Nat.{◌-◌}
 use native.Mathlib.Omega.{arith}
 use lib.ListN.{length}
 use borrow.Author.Rules.{part_to_end}
-use borrow.Author.Rules.{rules}
 use Rattle.ending_laws.proofs.Longest.{part_is, part_byte, no_part}
 use Rattle.ending.proofs.Promise.{refused_part, accepted_part}
 use Rattle.ending.proofs.shared_ending.Goals as goal

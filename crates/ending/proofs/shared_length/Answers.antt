@@ -1,11 +1,9 @@
 -- `ending::shared_length`: the walk back from both ends; the last k cells are alike.
-use mathlib.Core.Path.{◌≡◌, ◌∙◌, sym}
-use Prim.Native.Nat.{min, ◌≤◌, ◌-◌}
+use mathlib.Core.Path.{◌∙◌, sym}
+use Prim.Native.Nat.{◌-◌}
 use native.Mathlib.Omega.{arith}
-use lib.ListN.{length}
 use borrow.Author.Count.{below_more}
-use borrow.Author.Rules.{rules}
-use Rattle.ending_laws.proofs.Longest.{AlikeTo, stops_at, stops_after}
+use Rattle.ending_laws.proofs.Longest.{stops_at, stops_after}
 use Rattle.ending.proofs.shared_length.Goals as goal
 
 pub loop-k-init : goal.loop-k-init
@@ -24,12 +22,11 @@ pub loop-k-smaller : goal.loop-k-smaller
 loop-k-smaller c = omega arith
 
 pub loop-k-preserved : goal.loop-k-preserved
-loop-k-preserved c =
-    (
-      c.loop-k.invariant.0,
-      omega arith,
-      below_more _ c.loop-k.k c.loop-k.invariant.2 (sym c.from_end.ensures ∙ c.if-from_end.false ∙ c.from_end-in-loop-k.ensures),
-    )
+loop-k-preserved c = (
+  c.loop-k.invariant.0,
+  omega arith,
+  below_more _ c.loop-k.k c.loop-k.invariant.2 (sym c.from_end.ensures ∙ c.if-from_end.false ∙ c.from_end-in-loop-k.ensures),
+)
 
 pub returns : goal.returns
 returns c =

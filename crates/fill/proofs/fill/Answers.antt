@@ -1,7 +1,6 @@
 -- The answer of the checks stands beside a no; after a yes load, and fill what is loaded; what that answers is question 18.
 use mathlib.Core.Path.{◌∙◌, ap}
 use native.Mathlib.Omega.{arith}
-use borrow.Author.Rules.{rules}
 use mathlib.Core.Bool.{cond}
 use mathlib.Core.List.{List}
 use lib.Dec.{eqb}

@@ -7,7 +7,6 @@ use Rattle.grid_laws.proofs.Tests.{cond_true, cond_false}
 use Rattle.checks.proofs.Questions.{stranded_≤}
 use Rattle.fill.specs.Words.{sheet_in}
 use Rattle.fill.proofs.Words.{sheet_length, sheet_sixteen, unloaded_filled}
-use borrow.Author.Rules.{rules}
 use Rattle.fill.proofs.fill_loaded.Goals as goal
 
 -- a stranded cell: nothing is written
@@ -32,8 +31,8 @@ returns c =
     record {
       value = first;
       filled_after = unloaded_filled a.g (sheet_in n a.work.now) c.fill_words-first.new.work (sheet_length n a.work.now)
-            (sheet_sixteen n a.work.now c.requires.are_keys) (c.fill_words-first.ensures.words none)
-            c.unload.new.filled (c.unload.auto.filled ∙ c.requires.filled_len) c.unload.ensures
-            ∙ sym (cond_true _ _ (eq-eqb c.fill_words-first.result n none));
+          (sheet_sixteen n a.work.now c.requires.are_keys) (c.fill_words-first.ensures.words none)
+          c.unload.new.filled (c.unload.auto.filled ∙ c.requires.filled_len) c.unload.ensures
+          ∙ sym (cond_true _ _ (eq-eqb c.fill_words-first.result n none));
       marked = c.fill_words-first.ensures.marked;
     }

@@ -4,7 +4,6 @@ use native.Mathlib.Omega.{arith}
 use Rattle.grid.specs.Outlet.{first_stranded}
 use Rattle.fill.proofs.Words.{loaded_keys, loaded_sheet, words_of}
 use Rattle.fill.proofs.Voids.{loaded_voids}
-use borrow.Author.Rules.{rules}
 use Rattle.fill.proofs.fill_sheet.Goals as goal
 
 pub fill_words-requires : goal.fill_words-requires

@@ -8,7 +8,6 @@ use Rattle.fill.specs.Words.{sheet_in}
 use Rattle.fill.proofs.Words.{sheet_length}
 use Rattle.fill.proofs.Voids.{kept_voids, spelled_voids, full_reach, ready}
 use Rattle.fill.proofs.Steps.{front_sorted, none_reached, marks_stay, unreached_first, flooded_words}
-use borrow.Author.Rules.{rules}
 use Rattle.fill.proofs.fill_words.Goals as goal
 
 pub mark_voids-voids-requires : goal.mark_voids-voids-requires

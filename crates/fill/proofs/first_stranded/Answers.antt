@@ -2,7 +2,6 @@
 use mathlib.Core.Path.{sym, ◌∙◌}
 use native.Mathlib.Omega.{arith}
 use Rattle.fill.proofs.Voids.{full_reach}
-use borrow.Author.Rules.{rules}
 use Rattle.fill.proofs.first_stranded.Goals as goal
 
 pub returns-then-all_drain : goal.returns-then-all_drain

@@ -1,11 +1,11 @@
 use mathlib.Core.Path.{◌≡◌, sym, ◌∙◌}
 use mathlib.Core.Bool.{false}
-use Prim.Native.Nat.{◌-◌, ◌≤◌}
+use Prim.Native.Nat.{◌-◌}
 use native.Mathlib.Omega.{arith}
 use borrow.Author.Count.{below_more}
 use Rattle.grid_laws.proofs.Below.{first_is, first_none}
 use Rattle.fill.specs.Words.{is_unreached}
-use Rattle.fill.proofs.Loops.{ReachedTo, unreached_here}
+use Rattle.fill.proofs.Loops.{unreached_here}
 use Rattle.fill.proofs.first_unreached.Goals as goal
 
 pub loop-c-init : goal.loop-c-init

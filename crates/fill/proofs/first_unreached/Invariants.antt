@@ -1,11 +1,5 @@
-use mathlib.Core.Path.{◌≡◌, sym, ◌∙◌}
-use mathlib.Core.Bool.{false}
 use Prim.Native.Nat.{◌-◌, ◌≤◌}
-use native.Mathlib.Omega.{arith}
-use borrow.Author.Count.{below_more}
-use Rattle.grid_laws.proofs.Below.{first_is, first_none}
-use Rattle.fill.specs.Words.{is_unreached}
-use Rattle.fill.proofs.Loops.{ReachedTo, unreached_here}
+use Rattle.fill.proofs.Loops.{ReachedTo}
 use Rattle.fill.proofs.first_unreached.Given as goal
 
 abbrev pub invariant-loop-c : goal.invariant-loop-c

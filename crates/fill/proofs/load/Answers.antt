@@ -1,9 +1,9 @@
 -- The first i elevations are loaded.
 use native.Mathlib.Omega.{arith}
-use Prim.Native.Nat.{◌-◌, ◌≤◌}
+use Prim.Native.Nat.{◌-◌}
 use mathlib.Core.Path.{◌≡◌, refl, ◌∙◌}
 use lib.ListN.{length, length-set}
-use Rattle.fill.proofs.Loops.{LoadTo, load_more, load_end}
+use Rattle.fill.proofs.Loops.{load_more, load_end}
 use Rattle.fill.proofs.load.Reads as reads
 use Rattle.fill.proofs.load.Lts as lts
 use Rattle.cells.proofs.key_at.Reads as key-at-reads
@@ -29,8 +29,7 @@ loop-i-smaller c = omega arith
 
 pub loop-i-preserved : goal.loop-i-preserved
 loop-i-preserved c =
-    let e = c.args.elevations.now in
-    (
+    let e = c.args.elevations.now in (
       omega arith,
       length-set c.loop-i.work c.loop-i.i _ ∙ c.loop-i.invariant.1,
       load_more e c.loop-i.work c.loop-i.i c.key_at.result (omega arith) c.key_at.ensures.value c.key_at.ensures.elevation c.loop-i.invariant.2,

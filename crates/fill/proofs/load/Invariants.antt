@@ -1,9 +1,8 @@
 -- The first i elevations are loaded.
-use native.Mathlib.Omega.{arith}
 use Prim.Native.Nat.{◌-◌, ◌≤◌}
-use mathlib.Core.Path.{◌≡◌, refl, ◌∙◌}
-use lib.ListN.{length, length-set}
-use Rattle.fill.proofs.Loops.{LoadTo, load_more, load_end}
+use mathlib.Core.Path.{◌≡◌}
+use lib.ListN.{length}
+use Rattle.fill.proofs.Loops.{LoadTo}
 use Rattle.fill.proofs.load.Reads as reads
 use Rattle.fill.proofs.load.Lts as lts
 use Rattle.cells.proofs.key_at.Reads as key-at-reads

@@ -4,7 +4,6 @@ use lib.ListN.{get_or}
 use borrow.Author.Tests.{eqb-false}
 use Rattle.grid_laws.proofs.Below.{positive}
 use Rattle.fill.proofs.Voids.{lowest_key, first_on}
-use borrow.Author.Rules.{rules}
 use Rattle.fill.proofs.lowest_is_void.Goals as goal
 
 pub returns-then-n-eq0 : goal.returns-then-n-eq0

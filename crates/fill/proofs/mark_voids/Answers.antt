@@ -3,12 +3,10 @@ use mathlib.Core.Path.{◌≡◌, refl, ◌∙◌}
 use mathlib.Core.Bool.{true}
 use Prim.Native.Nat.{ℕ, ◌<◌}
 use lib.ListN.{get_or}
-use borrow.Author.Tests.{not-true, lt-ltb}
+use borrow.Author.Tests.{lt-ltb}
 use Rattle.grid.specs.Sheet.{size, is_data}
 use Rattle.grid_laws.proofs.Tests.{true_false}
 use Rattle.fill.proofs.Voids.{full_marked}
-use borrow.Author.Rules.{rules}
-use Rattle.std.proofs.lemmas.Bool.{not_from_false}
 use Rattle.fill.proofs.mark_voids.Goals as goal
 
 pub returns-then-not-lowest_is_void : goal.returns-then-not-lowest_is_void

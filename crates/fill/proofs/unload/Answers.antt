@@ -1,9 +1,8 @@
 -- The first i levels are unloaded.
 use native.Mathlib.Omega.{arith}
-use Prim.Native.Nat.{ℕ, ◌-◌, ◌/◌, ◌≤◌, ◌<◌}
-use mathlib.Core.Path.{◌≡◌, sym, ◌∙◌}
-use lib.ListN.{length, get_or, length-set}
-use Rattle.grid.specs.Sheet.{at}
+use Prim.Native.Nat.{◌-◌, ◌/◌}
+use mathlib.Core.Path.{sym, ◌∙◌}
+use lib.ListN.{get_or, length-set}
 use Rattle.cells.specs.Keys.{level_of}
 use mir.Facts.{to_z-of_z}
 use borrow.Author.Rules.{sfits_of}

@@ -1,13 +1,9 @@
 -- The first i levels are unloaded.
-use native.Mathlib.Omega.{arith}
 use Prim.Native.Nat.{ℕ, ◌-◌, ◌/◌, ◌≤◌, ◌<◌}
-use mathlib.Core.Path.{◌≡◌, sym, ◌∙◌}
-use lib.ListN.{length, get_or, length-set}
+use mathlib.Core.Path.{◌≡◌}
+use lib.ListN.{length, get_or}
 use Rattle.grid.specs.Sheet.{at}
 use Rattle.cells.specs.Keys.{level_of}
-use mir.Facts.{to_z-of_z}
-use borrow.Author.Rules.{sfits_of}
-use Rattle.fill.proofs.Loops.{unload_more}
 use Rattle.fill.proofs.unload.Reads as reads
 use Rattle.fill.proofs.unload.Lts as lts
 use Rattle.cells.proofs.elevation.Reads as elevation-reads

@@ -1,12 +1,10 @@
 -- From the queue's first to its end.
 use Rattle.flood_laws.specs.Packed.{front_of, back_of}
-use native.Mathlib.Omega.{arith}
 use Prim.Native.Nat.{◌-◌}
-use mathlib.Core.Path.{◌≡◌, refl, ◌∙◌}
+use mathlib.Core.Path.{◌≡◌}
 use Rattle.grid.specs.Sheet.{size}
 use lib.ListN.{length}
 use Rattle.flood_laws.specs.Flood.{During}
-use Rattle.flood_laws.proofs.Steps.{during_most}
 use Rattle.flood.proofs.drain.Given as goal
 
 abbrev pub invariant-loop-head : goal.invariant-loop-head

@@ -1,11 +1,8 @@
 -- Visit by visit through the order.
 use native.Mathlib.Omega.{arith}
-use Prim.Native.Nat.{◌-◌, ◌≤◌}
+use Prim.Native.Nat.{◌-◌}
 use mathlib.Core.Path.{◌≡◌, refl, ◌∙◌}
-use lib.ListN.{length}
 use Rattle.grid.specs.Sheet.{size}
-use Rattle.flood_laws.specs.Flood.{Between}
-use Rattle.flood_laws.specs.Packed.{front_of, back_of}
 use Rattle.flood_laws.proofs.Steps.{between_none}
 use Rattle.flood.proofs.flood.Goals as goal
 

@@ -2,7 +2,6 @@
 use native.Mathlib.Omega.{arith}
 use native.Mathlib.Nat.{div-le_self, mod-le}
 use Rattle.grid_laws.proofs.Neighbours.{cols_positive}
-use borrow.Author.Rules.{rules}
 use Rattle.flood.proofs.is_opening.Goals as goal
 
 pub nonzero_div-c : goal.nonzero_div-c

@@ -1,11 +1,10 @@
 -- The eight steps one after the other: none of those before p opens.
 use native.Mathlib.Omega.{arith}
-use Prim.Native.Nat.{ℕ, ◌-◌, ◌≤◌, ◌<◌}
+use Prim.Native.Nat.{◌-◌, ◌≤◌}
 use mathlib.Core.Path.{refl, sym}
 use mathlib.Core.Bool.{true≢false}
-use Rattle.grid.specs.Sheet.{size, neighbour}
+use Rattle.grid.specs.Sheet.{size}
 use Rattle.grid_laws.proofs.Neighbours.{neighbour_≤}
-use Rattle.flood_laws.specs.Flood.{Opens}
 use Rattle.flood_laws.specs.Packed.{front_of, back_of}
 use Rattle.flood_laws.proofs.Steps.{opening_of, none_opens}
 use borrow.Author.Count.{below_more}
@@ -53,8 +52,7 @@ pub loop-p-smaller : goal.loop-p-smaller
 loop-p-smaller c = omega arith
 
 pub loop-p-preserved : goal.loop-p-preserved
-loop-p-preserved c =
-    (
+loop-p-preserved c = (
   omega arith,
   below_more _ _ c.loop-p.invariant.1
       (rw c.neighbour-m.ensures at (c.opens_any.ensures.fact c.if-opens_any.false)),

@@ -1,14 +1,8 @@
 -- The eight steps one after the other: none of those before p opens.
-use native.Mathlib.Omega.{arith}
 use Prim.Native.Nat.{ℕ, ◌-◌, ◌≤◌, ◌<◌}
-use mathlib.Core.Path.{refl, sym}
-use mathlib.Core.Bool.{true≢false}
 use Rattle.grid.specs.Sheet.{size, neighbour}
-use Rattle.grid_laws.proofs.Neighbours.{neighbour_≤}
 use Rattle.flood_laws.specs.Flood.{Opens}
 use Rattle.flood_laws.specs.Packed.{front_of, back_of}
-use Rattle.flood_laws.proofs.Steps.{opening_of, none_opens}
-use borrow.Author.Count.{below_more}
 use Rattle.flood.proofs.opening_border.Given as goal
 
 abbrev pub invariant-loop-p : goal.invariant-loop-p

@@ -1,10 +1,9 @@
 -- The eight steps one after the other: none of those before p opens.
 use native.Mathlib.Omega.{arith}
-use Prim.Native.Nat.{ℕ, ◌-◌, ◌≤◌, ◌<◌}
+use Prim.Native.Nat.{◌-◌}
 use mathlib.Core.Path.{sym}
 use mathlib.Core.Bool.{true≢false}
-use Rattle.grid.specs.Sheet.{size, neighbour}
-use Rattle.flood_laws.specs.Flood.{Opens}
+use Rattle.grid.specs.Sheet.{size}
 use Rattle.flood_laws.specs.Packed.{front_of, back_of}
 use Rattle.flood_laws.proofs.Steps.{opening_of, none_opens, opens_on, opens_not_on}
 use borrow.Author.Count.{below_more}

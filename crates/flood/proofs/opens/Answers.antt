@@ -1,6 +1,5 @@
 use native.Mathlib.Omega.{arith}
 use Rattle.flood.proofs.Halves.{opens_void, opens_not, opens_reached}
-use borrow.Author.Rules.{rules}
 use Rattle.flood.proofs.opens.Goals as goal
 
 pub returns-then-word-eq0 : goal.returns-then-word-eq0

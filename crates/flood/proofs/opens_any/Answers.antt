@@ -4,7 +4,6 @@ use native.Mathlib.Omega.{arith}
 use Rattle.grid.specs.Sheet.{size}
 use Rattle.flood_laws.specs.Packed.{front_of, back_of}
 use Rattle.flood_laws.proofs.Steps.{opens_on, opens_not_on, opens_off, opens_not_off}
-use borrow.Author.Rules.{rules}
 use Rattle.flood.proofs.opens_any.Goals as goal
 
 pub returns-then-m-n : goal.returns-then-m-n

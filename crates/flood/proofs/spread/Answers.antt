@@ -5,7 +5,6 @@ use Prim.Native.Nat.{◌+◌}
 use lib.ListN.{get_or}
 use Rattle.grid_laws.proofs.Neighbours.{cols_positive}
 use Rattle.flood.proofs.Halves.{first_on, first_less, spread_start}
-use borrow.Author.Rules.{rules}
 use Rattle.flood.proofs.spread.Reads as reads
 use Rattle.flood.proofs.spread.Lts as lts
 use Rattle.cells.proofs.is_inner.Reads as is-inner-reads

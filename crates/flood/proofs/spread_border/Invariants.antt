@@ -1,12 +1,10 @@
 -- The eight steps one after the other: what stands at those before p is settled.
-use native.Mathlib.Omega.{arith}
 use Prim.Native.Nat.{◌-◌, ◌≤◌}
-use mathlib.Core.Path.{◌≡◌, refl, ◌∙◌}
+use mathlib.Core.Path.{◌≡◌}
 use lib.ListN.{length}
 use Rattle.grid.specs.Sheet.{size}
 use Rattle.flood_laws.specs.Flood.{Spread}
 use Rattle.flood_laws.specs.Packed.{front_of, back_of}
-use Rattle.flood_laws.proofs.Steps.{spread_more, spread_end, during_room}
 use Rattle.flood.proofs.spread_border.Given as goal
 
 abbrev pub invariant-loop-p : goal.invariant-loop-p

@@ -1,13 +1,10 @@
 use mathlib.Core.Logic.{inl}
 use mathlib.Core.Path.{refl}
 use Rattle.flood.proofs.Halves.{wanted_low, touch_yes}
-use borrow.Author.Tests.{not-true, not-false}
-use borrow.Author.Rules.{rules}
 use Rattle.flood.proofs.touch.Reads as reads
 use Rattle.flood.proofs.touch.Lts as lts
 use Rattle.flood.proofs.reach.Reads as reach-reads
 use Rattle.flood.proofs.wanted.Reads as wanted-reads
-use Rattle.std.proofs.lemmas.Bool.{not_from_false, not_from_true}
 use Rattle.flood.proofs.touch.Goals as goal
 
 pub returns-then-not-wanted : goal.returns-then-not-wanted

@@ -1,7 +1,6 @@
 use native.Mathlib.Omega.{arith}
 use mathlib.Core.Logic.{inl}
 use mathlib.Core.Path.{refl}
-use borrow.Author.Rules.{rules}
 use Rattle.flood.proofs.touch_any.Reads as reads
 use Rattle.flood.proofs.touch_any.Lts as lts
 use Rattle.flood.proofs.touch.Reads as Touch-reads

@@ -3,9 +3,6 @@ use native.Mathlib.Omega.{arith}
 use mathlib.Core.Path.{refl}
 use Rattle.flood_laws.proofs.Steps.{between_data}
 use Rattle.flood.proofs.Halves.{cell_on, visit_cell, visit_void, visit_reached, visit_closed, visit_room, visit_first, visit_end}
-use borrow.Author.Tests.{not-true, not-false}
-use borrow.Author.Rules.{rules}
-use Rattle.std.proofs.lemmas.Bool.{not_from_false, not_from_true}
 use Rattle.flood.proofs.visit.Goals as goal
 
 pub overflow_cast-c : goal.overflow_cast-c

@@ -1,7 +1,6 @@
 use mathlib.Core.Path.{◌∙◌}
 use Prim.Native.Nat.{◌+◌, ◌*◌, ◌≤◌}
 use native.Mathlib.Omega.{arith}
-use borrow.Author.Rules.{rules}
 use Rattle.grid.specs.Sheet.{size}
 use Rattle.cells.proofs.Rows.{row_on, next_row, within_row}
 use Rattle.flow.proofs.code_row.Goals as goal

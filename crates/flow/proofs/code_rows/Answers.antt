@@ -4,7 +4,6 @@ use native.Mathlib.Omega.{arith}
 use lib.ListN.{length}
 use Rattle.grid.specs.Sheet.{size}
 use Rattle.cells.proofs.Rows.{rows_small, row_on, row_whole}
-use Rattle.flow.specs.Coding.{CodesTo}
 use Rattle.flow.proofs.Flats.{codes_none}
 use Rattle.flow.proofs.code_rows.Goals as goal
 

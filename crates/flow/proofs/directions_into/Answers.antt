@@ -1,5 +1,4 @@
 use native.Mathlib.Omega.{arith}
-use borrow.Author.Rules.{rules}
 use Rattle.flow.proofs.Seeds.{none_lacks, kept_codes, written_codes}
 use Rattle.flow.proofs.directions_into.Goals as goal
 
@@ -51,7 +50,7 @@ write_codes-requires c =
       codes_len = c.requires.codes_len;
       levelled = c.levels.ensures;
       none_lacks = none_lacks c.args.g c.args.elevations.now c.requires.elevations_len c.levels.new.work
-                    c.levels.ensures c.first_without-first.ensures c.if-first-elevations.false;
+          c.levels.ensures c.first_without-first.ensures c.if-first-elevations.false;
       offsets = c.offsets-offsets.ensures;
     }
 

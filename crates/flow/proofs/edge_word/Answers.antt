@@ -5,7 +5,6 @@ use Rattle.cells.proofs.Codes.{outlet_none}
 use Rattle.cells.proofs.Keys.{zero_no_data, data_by_key}
 use Rattle.flow_laws.proofs.Words.{first_void}
 use Rattle.flow.proofs.Seeds.{outlet_word, drop_word, sum_below}
-use borrow.Author.Rules.{rules}
 use Rattle.flow.proofs.edge_word.Goals as goal
 
 pub returns-then-key_at-eq0 : goal.returns-then-key_at-eq0

@@ -1,10 +1,8 @@
-use mathlib.Core.Path.{◌≡◌, refl, ◌∙◌}
-use Prim.Native.Nat.{◌-◌, ◌≤◌, ◌<◌}
+use mathlib.Core.Path.{refl, ◌∙◌}
+use Prim.Native.Nat.{◌-◌, ◌<◌}
 use native.Mathlib.Omega.{arith}
 use lib.ListN.{length, length-set}
-use Rattle.cells.specs.Marks.{Marked}
 use Rattle.flow_laws.specs.Words.{first_word}
-use Rattle.flow.specs.Seeding.{WordsTo}
 use Rattle.flow.proofs.Seeds.{stored_more, marked_set}
 use Rattle.flow.proofs.edge_words.Goals as goal
 

@@ -1,7 +1,7 @@
 use Prim.Native.Nat.{◌-◌}
 use native.Mathlib.Omega.{arith}
 use Rattle.flow_laws.proofs.Words.{data_not_void}
-use Rattle.flow.proofs.Flats.{Summed, summed_none, summed_more, summed_all, below_is}
+use Rattle.flow.proofs.Flats.{summed_none, summed_more, summed_all, below_is}
 use Rattle.flow.proofs.flat_sum_border.Goals as goal
 
 pub loop-p-init : goal.loop-p-init

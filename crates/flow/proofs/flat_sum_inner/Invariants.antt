@@ -1,7 +1,5 @@
 use Prim.Native.Nat.{◌-◌}
-use native.Mathlib.Omega.{arith}
-use Rattle.flow_laws.proofs.Words.{data_not_void}
-use Rattle.flow.proofs.Flats.{Summed, summed_none, summed_more, summed_all, below_is}
+use Rattle.flow.proofs.Flats.{Summed}
 use Rattle.flow.proofs.flat_sum_inner.Given as goal
 
 abbrev pub invariant-loop-p : goal.invariant-loop-p

@@ -1,11 +1,10 @@
-use mathlib.Core.Path.{◌≡◌, refl, ◌∙◌}
-use Prim.Native.Nat.{◌-◌, ◌≤◌, ◌<◌}
+use mathlib.Core.Path.{refl, ◌∙◌}
+use Prim.Native.Nat.{◌-◌, ◌<◌}
 use native.Mathlib.Omega.{arith}
 use lib.ListN.{length, length-set}
 use Rattle.grid.specs.Sheet.{size}
 use Rattle.grid.specs.Directions.{direction_at}
 use Rattle.flow_laws.specs.Words.{levels_in}
-use Rattle.flow.specs.Coding.{CodesTo}
 use Rattle.flow.proofs.Seeds.{stored_more}
 use Rattle.flow.proofs.inner_codes.Goals as goal
 

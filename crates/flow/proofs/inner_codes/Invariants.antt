@@ -1,12 +1,7 @@
-use mathlib.Core.Path.{◌≡◌, refl, ◌∙◌}
-use Prim.Native.Nat.{◌-◌, ◌≤◌, ◌<◌}
-use native.Mathlib.Omega.{arith}
-use lib.ListN.{length, length-set}
-use Rattle.grid.specs.Sheet.{size}
-use Rattle.grid.specs.Directions.{direction_at}
-use Rattle.flow_laws.specs.Words.{levels_in}
+use mathlib.Core.Path.{◌≡◌}
+use Prim.Native.Nat.{◌-◌, ◌≤◌}
+use lib.ListN.{length}
 use Rattle.flow.specs.Coding.{CodesTo}
-use Rattle.flow.proofs.Seeds.{stored_more}
 use Rattle.flow.proofs.inner_codes.Given as goal
 
 abbrev pub invariant-loop-cell : goal.invariant-loop-cell

@@ -1,24 +1,21 @@
-use mathlib.Core.Path.{◌≡◌, refl, ◌∙◌}
-use Prim.Native.Nat.{◌-◌, ◌≤◌, ◌<◌}
+use mathlib.Core.Path.{refl, ◌∙◌}
+use Prim.Native.Nat.{◌-◌, ◌<◌}
 use native.Mathlib.Omega.{arith}
 use lib.ListN.{length}
 use lib.Seq.{get_or-set_other}
-use Rattle.cells.specs.Marks.{Marked}
 use Rattle.flow_laws.specs.Words.{first_word}
-use Rattle.flow.specs.Seeding.{WordsTo, SumsIn}
 use Rattle.flow.proofs.Seeds.{stored_more, marked_set}
 use Rattle.flow.proofs.inner_words.Goals as goal
 
 pub loop-cell-init : goal.loop-cell-init
-loop-cell-init c =
-    (
-      omega arith,
-      c.requires.from_le_to.0,
-      refl,
-      c.requires.words_to,
-      c.requires.sums_in,
-      c.requires.marks_in.marked,
-    )
+loop-cell-init c = (
+  omega arith,
+  c.requires.from_le_to.0,
+  refl,
+  c.requires.words_to,
+  c.requires.sums_in,
+  c.requires.marks_in.marked,
+)
 
 pub set_inner_word-requires : goal.set_inner_word-requires
 set_inner_word-requires c =

@@ -1,6 +1,5 @@
 use mathlib.Core.Path.{sym}
 use mathlib.Core.Bool.{true≢false}
-use borrow.Author.Rules.{rules}
 use Rattle.levels.proofs.Keyed.{off_height}
 use Rattle.flow.proofs.is_below_any.Goals as goal
 

@@ -1,5 +1,4 @@
 use native.Mathlib.Omega.{arith}
-use borrow.Author.Rules.{rules}
 use Rattle.flow.proofs.seed.Goals as goal
 
 pub edge_words-requires : goal.edge_words-requires

@@ -4,7 +4,6 @@ use native.Mathlib.Omega.{arith}
 use Rattle.grid.specs.Sheet.{size}
 use Rattle.cells.proofs.Rows.{row_on, next_row, within_row}
 use Rattle.flow.proofs.Seeds.{marks_kept}
-use borrow.Author.Rules.{rules}
 use Rattle.flow.proofs.seed_row.Goals as goal
 
 -- the row after this one lies on the sheet
@@ -51,7 +50,7 @@ inner_words-requires c =
       elevations_len = c.requires.elevations_len;
       g_bound = c.requires.g_bound;
       marks_in = marks_kept c.args.g c.args.elevations.now c.args.base c.args.work.now _ c.requires.marks_in same
-              c.row_sums.ensures.beyond;
+          c.row_sums.ensures.beyond;
       table_value = c.requires.table_value;
       from_le_to = (omega arith, omega (arith, room c.before.before.before.before.before.before));
       words_to = (λ i h. c.row_sums.ensures.before i h ∙ c.requires.words_to i h);

@@ -3,7 +3,6 @@ use Prim.Native.Nat.{◌+◌, ◌-◌, ◌*◌, ◌≤◌, ◌<◌}
 use native.Mathlib.Omega.{arith}
 use lib.ListN.{length}
 use Rattle.grid.specs.Sheet.{size}
-use Rattle.flow.specs.Seeding.{WordsTo, MarksIn}
 use Rattle.cells.proofs.Rows.{rows_small, row_on, row_whole}
 use Rattle.flow.proofs.seed_rows.Goals as goal
 

@@ -1,10 +1,7 @@
-use mathlib.Core.Path.{◌≡◌, refl, ◌∙◌}
-use Prim.Native.Nat.{◌+◌, ◌-◌, ◌*◌, ◌≤◌, ◌<◌}
-use native.Mathlib.Omega.{arith}
+use mathlib.Core.Path.{◌≡◌}
+use Prim.Native.Nat.{◌+◌, ◌-◌, ◌*◌, ◌≤◌}
 use lib.ListN.{length}
-use Rattle.grid.specs.Sheet.{size}
 use Rattle.flow.specs.Seeding.{WordsTo, MarksIn}
-use Rattle.cells.proofs.Rows.{rows_small, row_on, row_whole}
 use Rattle.flow.proofs.seed_rows.Given as goal
 
 abbrev pub invariant-loop-row : goal.invariant-loop-row

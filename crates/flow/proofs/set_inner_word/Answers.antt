@@ -3,7 +3,6 @@ use mathlib.Core.Path.{◌∙◌, ap}
 use Prim.Native.Nat.{ℕ}
 use lib.ListN.{set}
 use Rattle.flow.proofs.Seeds.{sum_word}
-use borrow.Author.Rules.{rules}
 use Rattle.flow.proofs.set_inner_word.Goals as goal
 
 pub returns-then-sum-lt256 : goal.returns-then-sum-lt256

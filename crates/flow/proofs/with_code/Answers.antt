@@ -1,4 +1,3 @@
-use borrow.Author.Rules.{rules}
 use Rattle.flow.proofs.Flats.{with_member, without_member}
 use Rattle.flow.proofs.with_code.Goals as goal
 

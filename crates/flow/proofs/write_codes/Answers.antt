@@ -3,7 +3,6 @@ use mathlib.Core.List.{List}
 use Prim.Native.Nat.{ℕ}
 use native.Mathlib.Omega.{arith}
 use lib.ListN.{length}
-use borrow.Author.Rules.{rules}
 use Rattle.grid.specs.Below.{table}
 use Rattle.grid.specs.Sheet.{size}
 use Rattle.grid.specs.Directions.{direction_at}

@@ -3,7 +3,6 @@ use mathlib.Core.Path.{◌∙◌}
 use lib.ListN.{length-set}
 use Rattle.grid.specs.Frames.{header_text}
 use Rattle.text_lines.proofs.Lines.{put_put, put_line_feed}
-use borrow.Author.Rules.{rules}
 use Rattle.frames.proofs.header.Reads as reads
 use Rattle.frames.proofs.header.Lts as lts
 use Rattle.text_lines.proofs.put_hex.Reads as put-hex-reads

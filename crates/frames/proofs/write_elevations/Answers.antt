@@ -1,6 +1,5 @@
 -- `frames::write_elevations`: the header and the sheet, one run after the other.
 use Rattle.frames.proofs.Outputs.{elevations_put}
-use borrow.Author.Rules.{rules}
 use Rattle.frames.proofs.write_elevations.Reads as reads
 use Rattle.frames.proofs.write_elevations.Lts as lts
 use Rattle.frames.proofs.header.Reads as header-reads

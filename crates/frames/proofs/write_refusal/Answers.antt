@@ -2,7 +2,6 @@
 use mathlib.Core.Path.{◌∙◌}
 use lib.ListN.{length-set}
 use Rattle.frames.proofs.Outputs.{refusal_printed}
-use borrow.Author.Rules.{rules}
 use Rattle.frames.proofs.write_refusal.Reads as reads
 use Rattle.frames.proofs.write_refusal.Lts as lts
 use Rattle.text_lines.proofs.put_hex.Reads as put-hex-reads

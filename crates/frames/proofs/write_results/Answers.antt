@@ -1,6 +1,5 @@
 -- `frames::write_results`: the filled sheet with its header and the three other sheets, one run after the other.
 use Rattle.frames.proofs.Outputs.{results_printed}
-use borrow.Author.Rules.{rules}
 use Rattle.frames.proofs.write_results.Reads as reads
 use Rattle.frames.proofs.write_results.Lts as lts
 use Rattle.text_lines.proofs.codes_sheet.Reads as codes-sheet-reads

@@ -2,9 +2,6 @@
 use native.Mathlib.Omega.{arith}
 use Prim.Native.Nat.{◌-◌}
 use mathlib.Core.Path.{◌≡◌, refl, ◌∙◌}
-use lib.ListN.{length}
-use Rattle.grid.specs.Sheet.{size}
-use Rattle.join_laws.specs.Search.{part_of, Searching, GoesOn}
 use Rattle.join_laws.proofs.Search.{queue_cell, goes_same, goes_on, parts_same, searched}
 use Rattle.join.proofs.join.Goals as goal
 

@@ -1,11 +1,9 @@
 -- From the queue's first to its end.
-use native.Mathlib.Omega.{arith}
 use Prim.Native.Nat.{◌-◌}
-use mathlib.Core.Path.{◌≡◌, refl, ◌∙◌}
+use mathlib.Core.Path.{◌≡◌}
 use lib.ListN.{length}
 use Rattle.grid.specs.Sheet.{size}
 use Rattle.join_laws.specs.Search.{part_of, Searching, GoesOn}
-use Rattle.join_laws.proofs.Search.{queue_cell, goes_same, goes_on, parts_same, searched}
 use Rattle.join.proofs.join.Given as goal
 
 abbrev pub invariant-loop-head : goal.invariant-loop-head

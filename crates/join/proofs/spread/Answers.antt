@@ -5,7 +5,6 @@ use Prim.Native.Nat.{◌+◌}
 use lib.ListN.{get_or}
 use Rattle.grid_laws.proofs.Neighbours.{cols_positive}
 use Rattle.join_laws.proofs.Search.{queue_cell, spread_none}
-use borrow.Author.Rules.{rules}
 use Rattle.join.proofs.spread.Goals as goal
 
 pub overflow_add-x : goal.overflow_add-x

@@ -1,10 +1,7 @@
 -- The eight steps one after the other: no mark 1 stands at those before p.
 use native.Mathlib.Omega.{arith}
-use Prim.Native.Nat.{◌-◌, ◌≤◌}
+use Prim.Native.Nat.{◌-◌}
 use mathlib.Core.Path.{◌≡◌, refl, ◌∙◌}
-use lib.ListN.{length}
-use Rattle.grid.specs.Sheet.{size}
-use Rattle.join_laws.specs.Search.{part_of, Spreading, GoesOn}
 use Rattle.join_laws.proofs.Search.{queue_room, touch_step, spread_all, goes_same, goes_on, parts_same}
 use Rattle.join.proofs.spread_border.Goals as goal
 

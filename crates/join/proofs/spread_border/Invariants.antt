@@ -1,11 +1,9 @@
 -- The eight steps one after the other: no mark 1 stands at those before p.
-use native.Mathlib.Omega.{arith}
 use Prim.Native.Nat.{◌-◌, ◌≤◌}
-use mathlib.Core.Path.{◌≡◌, refl, ◌∙◌}
+use mathlib.Core.Path.{◌≡◌}
 use lib.ListN.{length}
 use Rattle.grid.specs.Sheet.{size}
 use Rattle.join_laws.specs.Search.{part_of, Spreading, GoesOn}
-use Rattle.join_laws.proofs.Search.{queue_room, touch_step, spread_all, goes_same, goes_on, parts_same}
 use Rattle.join.proofs.spread_border.Given as goal
 
 abbrev pub invariant-loop-p : goal.invariant-loop-p

@@ -1,10 +1,7 @@
 -- The eight steps one after the other: no mark 1 stands at those before p.
 use native.Mathlib.Omega.{arith}
-use Prim.Native.Nat.{◌-◌, ◌≤◌}
+use Prim.Native.Nat.{◌-◌}
 use mathlib.Core.Path.{◌≡◌, refl, ◌∙◌}
-use lib.ListN.{length}
-use Rattle.grid.specs.Sheet.{size}
-use Rattle.join_laws.specs.Search.{part_of, Spreading, GoesOn}
 use Rattle.join_laws.proofs.Search.{queue_room, touch_step, spread_all, goes_same, goes_on, parts_same}
 use Rattle.join.proofs.spread_inner.Goals as goal
 
@@ -33,7 +30,7 @@ touch-tail-requires c =
       parts = parts_same c.requires.parts c.loop-p.invariant.1;
       m_lt_n = c.beside-m.ensures.upper_bound;
       len_lt_n = λ e. queue_room a.g a.base a.half a.value c.requires.le_value c.loop-p.work
-            (parts_same c.requires.parts c.loop-p.invariant.1) a.head c.loop-p.tail c.loop-p.invariant.2.searching _ c.beside-m.ensures.upper_bound e;
+          (parts_same c.requires.parts c.loop-p.invariant.1) a.head c.loop-p.tail c.loop-p.invariant.2.searching _ c.beside-m.ensures.upper_bound e;
     }
 
 pub overflow_add-p : goal.overflow_add-p

@@ -2,7 +2,6 @@
 use mathlib.Core.Logic.{inl}
 use mathlib.Core.Path.{refl}
 use native.Mathlib.Omega.{arith}
-use borrow.Author.Rules.{rules}
 use Rattle.join.proofs.touch_any.Goals as goal
 
 pub returns-then-m-n : goal.returns-then-m-n

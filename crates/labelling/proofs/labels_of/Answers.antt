@@ -1,7 +1,6 @@
 -- Labels are read off where the walk says that every route ends.
 use native.Mathlib.Omega.{arith}
 use Rattle.labelling.proofs.Labelled.{all_end, no_labels, raised, all_labels}
-use borrow.Author.Rules.{rules}
 use Rattle.labelling.proofs.labels_of.Goals as goal
 
 pub returns-then-first-n : goal.returns-then-first-n

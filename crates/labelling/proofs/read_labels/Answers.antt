@@ -1,10 +1,10 @@
 -- The labels of the cells passed stand.
-use Prim.Native.Nat.{◌+◌, ◌-◌, ◌≤◌}
+use Prim.Native.Nat.{◌-◌}
 use mathlib.Core.Path.{◌≡◌, refl, sym, ◌∙◌}
 use native.Mathlib.Omega.{arith}
-use lib.ListN.{length, get_or, length-set}
+use lib.ListN.{length-set}
 use Rattle.grid_laws.proofs.Below.{is_table}
-use Rattle.labelling.proofs.Labelled.{FilledTo, filled_more}
+use Rattle.labelling.proofs.Labelled.{filled_more}
 use Rattle.labelling.proofs.read_labels.Goals as goal
 
 pub overflow_add-raised : goal.overflow_add-raised

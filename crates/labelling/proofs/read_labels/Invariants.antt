@@ -1,10 +1,8 @@
 -- The labels of the cells passed stand.
 use Prim.Native.Nat.{◌+◌, ◌-◌, ◌≤◌}
-use mathlib.Core.Path.{◌≡◌, refl, sym, ◌∙◌}
-use native.Mathlib.Omega.{arith}
-use lib.ListN.{length, get_or, length-set}
-use Rattle.grid_laws.proofs.Below.{is_table}
-use Rattle.labelling.proofs.Labelled.{FilledTo, filled_more}
+use mathlib.Core.Path.{◌≡◌}
+use lib.ListN.{length, get_or}
+use Rattle.labelling.proofs.Labelled.{FilledTo}
 use Rattle.labelling.proofs.read_labels.Given as goal
 
 abbrev pub invariant-loop-c : goal.invariant-loop-c

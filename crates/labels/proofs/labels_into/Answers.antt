@@ -3,7 +3,6 @@ use native.Mathlib.Omega.{arith}
 use lib.ListN.{drop}
 use Rattle.grid.specs.Sheet.{size}
 use Rattle.labelling.proofs.Sheet.{marks, sheet_labels}
-use borrow.Author.Rules.{rules}
 use Rattle.labels.proofs.labels_into.Goals as goal
 
 pub labels_of-requires : goal.labels_of-requires

@@ -1,10 +1,8 @@
-use mathlib.Core.Path.{◌≡◌, refl, ◌∙◌}
-use Prim.Native.Nat.{◌-◌, ◌≤◌}
-use native.Mathlib.Omega.{arith}
+use mathlib.Core.Path.{◌≡◌}
+use Prim.Native.Nat.{◌-◌}
 use lib.ListN.{length}
 use Rattle.grid.specs.Sheet.{size}
 use Rattle.flow_laws.specs.Words.{Searching}
-use Rattle.flow_laws.proofs.Words.{searching_most}
 use Rattle.levels.proofs.empty_closed.Given as goal
 
 abbrev pub invariant-loop-head : goal.invariant-loop-head

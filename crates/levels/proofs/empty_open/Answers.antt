@@ -1,9 +1,7 @@
 use mathlib.Core.Path.{◌≡◌, refl, ◌∙◌}
 use Prim.Native.Nat.{◌-◌, ◌≤◌}
 use native.Mathlib.Omega.{arith}
-use lib.ListN.{length}
 use Rattle.grid.specs.Sheet.{size}
-use Rattle.flow_laws.specs.Words.{Searching}
 use Rattle.flow_laws.proofs.Words.{searching_most}
 use Rattle.levels.proofs.empty_open.Goals as goal
 

@@ -1,4 +1,3 @@
-use borrow.Author.Rules.{rules}
 use Rattle.levels.proofs.empty_queue.Goals as goal
 
 pub empty_open-requires : goal.empty_open-requires

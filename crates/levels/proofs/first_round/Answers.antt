@@ -1,5 +1,4 @@
 use native.Mathlib.Omega.{arith}
-use borrow.Author.Rules.{rules}
 use Rattle.flow_laws.specs.Words.{Joining}
 use Rattle.levels.proofs.Joined.{joining_none}
 use Rattle.levels.proofs.first_round.Goals as goal

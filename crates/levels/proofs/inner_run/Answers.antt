@@ -1,8 +1,6 @@
 use mathlib.Core.Path.{◌≡◌, refl, ◌∙◌}
-use Prim.Native.Nat.{◌-◌, ◌≤◌}
+use Prim.Native.Nat.{◌-◌}
 use native.Mathlib.Omega.{arith}
-use lib.ListN.{length}
-use Rattle.flow_laws.specs.Words.{Joining}
 use Rattle.levels.proofs.inner_run.Goals as goal
 
 pub loop-cell-init : goal.loop-cell-init

@@ -1,6 +1,5 @@
 use mathlib.Core.Path.{sym}
 use mathlib.Core.Bool.{true≢false}
-use borrow.Author.Rules.{rules}
 use Rattle.levels.proofs.Keyed.{off_height}
 use Rattle.levels.proofs.is_zero_any.Goals as goal
 

@@ -1,7 +1,7 @@
 use mathlib.Core.Path.{sym}
 use mathlib.Core.Bool.{true≢false}
 use native.Mathlib.Omega.{arith}
-use borrow.Author.Rules.{rules, sfits_of}
+use borrow.Author.Rules.{sfits_of}
 use Rattle.grid.specs.Sheet.{at}
 use Rattle.cells.proofs.Keys.{Known}
 use Rattle.levels.proofs.Keyed.{key_read, differs, agrees}

@@ -1,7 +1,7 @@
 use mathlib.Core.Path.{◌≡◌}
 use Prim.Native.Nat.{◌<◌}
 use native.Mathlib.Omega.{arith}
-use borrow.Author.Rules.{rules, sfits_of}
+use borrow.Author.Rules.{sfits_of}
 use Rattle.grid.specs.Sheet.{at}
 use Rattle.cells.specs.Keys.{level_of}
 use Rattle.levels.proofs.Keyed.{key_read, data_known}

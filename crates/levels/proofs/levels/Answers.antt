@@ -1,7 +1,6 @@
 use Prim.Native.Nat.{◌/◌}
 use native.Mathlib.Omega.{arith}
 use lib.ListN.{length}
-use borrow.Author.Rules.{rules}
 use Rattle.flow_laws.proofs.Words.{levelled}
 use Rattle.levels.proofs.levels.Goals as goal
 

@@ -3,7 +3,6 @@ use Prim.Native.Nat.{◌+◌, ◌-◌, ◌*◌, ◌≤◌}
 use native.Mathlib.Omega.{arith}
 use Rattle.grid.specs.Sheet.{size}
 use Rattle.cells.proofs.Rows.{row_on, next_row, within_row}
-use borrow.Author.Rules.{rules}
 use Rattle.levels.proofs.round_row.Goals as goal
 
 -- the row after this one lies on the sheet

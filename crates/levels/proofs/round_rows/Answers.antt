@@ -4,7 +4,6 @@ use native.Mathlib.Omega.{arith}
 use lib.ListN.{length}
 use Rattle.grid.specs.Sheet.{size}
 use Rattle.cells.proofs.Rows.{rows_small, row_on, row_whole}
-use Rattle.flow_laws.specs.Words.{Joining}
 use Rattle.levels.proofs.round_rows.Goals as goal
 
 -- two rows lie on the sheet, and a third

@@ -1,9 +1,6 @@
-use mathlib.Core.Path.{◌≡◌, refl, ◌∙◌}
-use Prim.Native.Nat.{◌+◌, ◌-◌, ◌*◌, ◌≤◌, ◌<◌}
-use native.Mathlib.Omega.{arith}
+use mathlib.Core.Path.{◌≡◌}
+use Prim.Native.Nat.{◌+◌, ◌-◌, ◌*◌, ◌≤◌}
 use lib.ListN.{length}
-use Rattle.grid.specs.Sheet.{size}
-use Rattle.cells.proofs.Rows.{rows_small, row_on, row_whole}
 use Rattle.flow_laws.specs.Words.{Joining}
 use Rattle.levels.proofs.round_rows.Given as goal
 

@@ -1,13 +1,8 @@
 -- The eight steps one after the other: what stands at those before p is settled.
-use mathlib.Core.Path.{◌≡◌, refl, ◌∙◌}
-use Prim.Native.Nat.{◌-◌, ◌≤◌, ◌<◌}
-use native.Mathlib.Nat.{div-le_self, mod-le}
-use native.Mathlib.Omega.{arith}
+use mathlib.Core.Path.{◌≡◌}
+use Prim.Native.Nat.{◌-◌, ◌≤◌}
 use lib.ListN.{length}
-use Rattle.grid.specs.Sheet.{size}
-use Rattle.grid_laws.proofs.Neighbours.{cols_positive}
 use Rattle.levels.specs.Spreading.{Spreading}
-use Rattle.levels.proofs.Spreading.{x_on, spreading_room, spreading_more, spreading_end}
 use Rattle.levels.proofs.spread_any.Given as goal
 
 abbrev pub invariant-loop-p : goal.invariant-loop-p

@@ -1,6 +1,5 @@
 use Prim.Native.Nat.{ℕ, ◌+◌}
 use native.Mathlib.Omega.{arith}
-use borrow.Author.Rules.{rules}
 use lib.ListN.{get_or}
 use Rattle.levels.proofs.Spreading.{Reading, reading}
 use Rattle.levels.proofs.spread_closed.Goals as goal

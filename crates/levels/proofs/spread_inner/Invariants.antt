@@ -1,11 +1,8 @@
 -- The eight steps one after the other: what stands at those before p is settled.
-use mathlib.Core.Path.{◌≡◌, refl, ◌∙◌}
-use mathlib.Core.Logic.{inl}
+use mathlib.Core.Path.{◌≡◌}
 use Prim.Native.Nat.{◌-◌, ◌≤◌}
-use native.Mathlib.Omega.{arith}
 use lib.ListN.{length}
 use Rattle.levels.specs.Spreading.{Spreading}
-use Rattle.levels.proofs.Spreading.{spreading_room, spreading_more, spreading_end}
 use Rattle.levels.proofs.spread_inner.Given as goal
 
 abbrev pub invariant-loop-p : goal.invariant-loop-p

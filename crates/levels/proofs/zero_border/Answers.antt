@@ -1,8 +1,7 @@
 -- The eight steps one after the other, as far as p.
-use Prim.Native.Nat.{◌-◌, ◌≤◌}
+use Prim.Native.Nat.{◌-◌}
 use native.Mathlib.Omega.{arith}
-use borrow.Author.Rules.{rules}
-use Rattle.levels.proofs.Keyed.{Looked, looked_none, looked_more}
+use Rattle.levels.proofs.Keyed.{looked_none, looked_more}
 use Rattle.levels.proofs.zero_border.Goals as goal
 
 pub loop-p-init : goal.loop-p-init

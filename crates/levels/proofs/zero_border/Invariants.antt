@@ -1,8 +1,6 @@
 -- The eight steps one after the other, as far as p.
 use Prim.Native.Nat.{◌-◌, ◌≤◌}
-use native.Mathlib.Omega.{arith}
-use borrow.Author.Rules.{rules}
-use Rattle.levels.proofs.Keyed.{Looked, looked_none, looked_more}
+use Rattle.levels.proofs.Keyed.{Looked}
 use Rattle.levels.proofs.zero_border.Given as goal
 
 abbrev pub invariant-loop-p : goal.invariant-loop-p

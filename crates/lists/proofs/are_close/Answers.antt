@@ -1,5 +1,4 @@
 -- `lists::are_close`: each way out by its test.
-use borrow.Author.Rules.{rules}
 use borrow.Author.Tests.{lt-leb, le-leb}
 use Rattle.lists.specs.Beside.{are_close}
 use Rattle.lists.proofs.are_close.Goals as goal

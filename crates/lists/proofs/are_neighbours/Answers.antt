@@ -1,6 +1,5 @@
 -- `lists::are_neighbours`: each way out by its tests.
 use native.Mathlib.Omega.{arith}
-use borrow.Author.Rules.{rules}
 use Rattle.checks.proofs.Asked.{says_no, says_yes}
 use Rattle.lists.proofs.Beside.{yes_close, rows_apart, cols_apart, by_step}
 use Rattle.std.proofs.lemmas.Bool.{not_from_false, not_from_true}

@@ -1,6 +1,5 @@
 -- `lists::check_lists`: each return is a case of what is asked.
 use mathlib.Core.Path.{◌∙◌}
-use borrow.Author.Rules.{rules}
 use Rattle.lists.proofs.Promise.{bad_size, fits, bad_first, bad_second, none_bad}
 use Rattle.lists.proofs.check_lists.Goals as goal
 

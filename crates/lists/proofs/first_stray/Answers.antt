@@ -3,9 +3,8 @@ use mathlib.Core.Path.{sym, ◌∙◌}
 use Prim.Native.Nat.{◌-◌}
 use native.Mathlib.Nat.{div-le_self, mod-le}
 use native.Mathlib.Omega.{arith}
-use lib.ListN.{length, get_or}
-use borrow.Author.Rules.{rules}
-use Rattle.lists.proofs.Stray.{WalkedTo, walked_none, walked_on, off_the_sheet, tested, stray_found, none_found}
+use lib.ListN.{get_or}
+use Rattle.lists.proofs.Stray.{walked_none, walked_on, off_the_sheet, tested, stray_found, none_found}
 use Rattle.std.proofs.lemmas.Bool.{not_from_false, not_from_true}
 use Rattle.lists.proofs.first_stray.Goals as goal
 

@@ -1,11 +1,7 @@
 -- `lists::first_stray`: a walk along the list, with row and column of the cell before.
-use mathlib.Core.Path.{sym, ◌∙◌}
 use Prim.Native.Nat.{◌-◌}
-use native.Mathlib.Nat.{div-le_self, mod-le}
-use native.Mathlib.Omega.{arith}
-use lib.ListN.{length, get_or}
-use borrow.Author.Rules.{rules}
-use Rattle.lists.proofs.Stray.{WalkedTo, walked_none, walked_on, off_the_sheet, tested, stray_found, none_found}
+use lib.ListN.{length}
+use Rattle.lists.proofs.Stray.{WalkedTo}
 use Rattle.lists.proofs.first_stray.Given as goal
 
 abbrev pub invariant-loop-i : goal.invariant-loop-i

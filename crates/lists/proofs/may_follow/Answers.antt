@@ -1,6 +1,5 @@
 -- `lists::may_follow`: by the place.
 use mathlib.Core.Path.{sym}
-use borrow.Author.Rules.{rules}
 use borrow.Author.Tests.{eq-eqb, ne_eqb}
 use Rattle.grid_laws.proofs.Tests.{or_left}
 use Rattle.lists.proofs.may_follow.Goals as goal

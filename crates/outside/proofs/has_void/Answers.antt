@@ -1,14 +1,12 @@
 -- No key so far is below the lowest; where that is above 0, all cells hold data.
 use mathlib.Core.Path.{refl}
-use Prim.Native.Nat.{ℕ, ◌-◌, ◌≤◌, ◌<◌}
+use Prim.Native.Nat.{◌-◌, ◌≤◌}
 use native.Mathlib.Omega.{arith}
-use lib.ListN.{length}
 use borrow.Author.Count.{below_more}
 use borrow.Author.Tests.{eqb-false}
 use Rattle.grid.specs.Sheet.{at}
 use Rattle.cells.specs.Keys.{key_of}
 use Rattle.cells.proofs.Keys.{data_by_key}
-use borrow.Author.Rules.{rules}
 use Rattle.outside.proofs.has_void.Goals as goal
 
 pub loop-cell-init : goal.loop-cell-init
@@ -21,8 +19,7 @@ pub loop-cell-preserved : goal.loop-cell-preserved
 loop-cell-preserved c =
     let h = c.loop-cell-test.true in
     let e = c.args.elevations.now in
-    let both = c.lower-low.ensures in
-    (
+    let both = c.lower-low.ensures in (
       omega arith,
       below_more (λ i. c.lower-low.result ≤ key_of (at e i)) c.loop-cell.cell
           (λ i m. let b = c.loop-cell.invariant.1 i m in let a = both.0 in omega arith) (let q = c.short_key_at.ensures.value in let b = both.1 in omega arith),

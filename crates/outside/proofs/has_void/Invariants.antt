@@ -1,14 +1,8 @@
 -- No key so far is below the lowest; where that is above 0, all cells hold data.
-use mathlib.Core.Path.{refl}
 use Prim.Native.Nat.{ℕ, ◌-◌, ◌≤◌, ◌<◌}
-use native.Mathlib.Omega.{arith}
 use lib.ListN.{length}
-use borrow.Author.Count.{below_more}
-use borrow.Author.Tests.{eqb-false}
 use Rattle.grid.specs.Sheet.{at}
 use Rattle.cells.specs.Keys.{key_of}
-use Rattle.cells.proofs.Keys.{data_by_key}
-use borrow.Author.Rules.{rules}
 use Rattle.outside.proofs.has_void.Given as goal
 
 abbrev pub invariant-loop-cell : goal.invariant-loop-cell

@@ -10,7 +10,6 @@ use Rattle.grid_laws.proofs.Below.{positive}
 use Rattle.grid_laws.proofs.Outlets.{void_on}
 use Rattle.join_laws.specs.Search.{Parts}
 use Rattle.outside.proofs.Seeds.{seeds_none, marked_by}
-use borrow.Author.Rules.{rules}
 use Rattle.outside.proofs.mark.Goals as goal
 
 -- marks and queue in the second half
@@ -49,7 +48,7 @@ seed_sides-len-requires c =
       half_le_base = omega arith;
       rows_nonzero = some_rows a.g some;
       seeds_on = seeds_none a.g a.elevations.now (l / 2 + size a.g) (l / 2) c.mark_voids.new.work
-              (λ x h. c.mark_voids.ensures.by_index x (let e = c.requires.elevations_len in omega arith));
+          (λ x h. c.mark_voids.ensures.by_index x (let e = c.requires.elevations_len in omega arith));
     }
 
 pub join-requires : goal.join-requires

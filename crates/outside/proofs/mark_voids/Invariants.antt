@@ -1,14 +1,9 @@
 -- Cell after cell gets its mark, and what lies before the marks is left alone.
-use mathlib.Core.Path.{◌≡◌, refl, ◌∙◌}
+use mathlib.Core.Path.{◌≡◌}
 use mathlib.Core.Bool.{cond}
 use Prim.Native.Nat.{ℕ, ◌+◌, ◌-◌, ◌≤◌, ◌<◌}
-use native.Mathlib.Omega.{arith}
-use lib.ListN.{length, get_or, set, length-set}
-use lib.Seq.{get_or-set_same, get_or-set_other}
-use borrow.Author.Count.{below_more}
+use lib.ListN.{length, get_or}
 use Rattle.grid.specs.Sheet.{is_data}
-use Rattle.outside.proofs.Seeds.{void_mark_is}
-use borrow.Author.Rules.{rules}
 use Rattle.outside.proofs.mark_voids.Given as goal
 
 abbrev pub invariant-loop-cell : goal.invariant-loop-cell

@@ -2,19 +2,15 @@
 use mathlib.Core.Path.{◌≡◌, refl, sym, ◌∙◌, subst}
 use mathlib.Core.Bool.{true}
 use Rattle.grid_laws.proofs.Tests.{true_false}
-use Prim.Native.Nat.{ℕ, ◌+◌, ◌-◌, ◌*◌, ◌≤◌, ◌<◌}
+use Prim.Native.Nat.{ℕ, ◌+◌, ◌-◌, ◌*◌}
 use native.Mathlib.Omega.{arith}
 use lib.ListN.{length, get_or}
 use borrow.Author.Count.{below_more}
-use borrow.Author.Tests.{not-true, not-false}
 use Rattle.grid.specs.Sheet.{size}
 use Rattle.grid.specs.Outlet.{is_open}
 use Rattle.join_laws.specs.Search.{Parts}
 use Rattle.join_laws.proofs.Search.{parts_same, queue_room}
-use Rattle.outside.specs.Seeds.{SeedsOn}
 use Rattle.outside.proofs.Seeds.{seeds_here, seeds_then, ones_back, seed_step, side_open}
-use borrow.Author.Rules.{rules}
-use Rattle.std.proofs.lemmas.Bool.{not_from_false, not_from_true}
 use Rattle.outside.proofs.seed_side.Goals as goal
 
 pub returns-then-not-is_open : goal.returns-then-not-is_open
@@ -51,7 +47,7 @@ touch-tail-requires c =
       parts = P;
       m_lt_n = there;
       len_lt_n = λ one. queue_room a.g a.base a.half 2 (omega arith) c.loop-i.work P 0 c.loop-i.tail c.loop-i.invariant.2.searching
-            (a.start + c.loop-i.i * a.stride) there one;
+          (a.start + c.loop-i.i * a.stride) there one;
     }
 
 pub overflow_add-i : goal.overflow_add-i

@@ -4,7 +4,6 @@ use native.Mathlib.Omega.{arith}
 use Rattle.join_laws.proofs.Search.{parts_same}
 use Rattle.outside.proofs.Sides.{west, east, north, south}
 use Rattle.outside.proofs.Seeds.{seeds_here, four_sides}
-use borrow.Author.Rules.{rules}
 use Rattle.outside.proofs.seed_sides.Goals as goal
 
 pub seed_side-west-requires : goal.seed_side-west-requires

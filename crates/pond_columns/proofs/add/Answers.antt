@@ -2,7 +2,6 @@
 use mathlib.Core.Logic.{inl, inr}
 use mathlib.Core.Path.{refl}
 use native.Mathlib.Omega.{arith}
-use borrow.Author.Rules.{rules}
 use Rattle.pond_columns.proofs.add.Goals as goal
 
 pub returns-then-mark-lt2 : goal.returns-then-mark-lt2

@@ -1,8 +1,7 @@
 -- The first k places are 0.
 use native.Mathlib.Omega.{arith}
 use mathlib.Core.Path.{◌≡◌}
-use Prim.Native.Nat.{◌-◌, ◌≤◌}
-use Rattle.pond_columns.specs.State.{Cleared}
+use Prim.Native.Nat.{◌-◌}
 use Rattle.pond_columns.proofs.Gathering.{cleared_none, cleared_more}
 use Rattle.pond_columns.proofs.clear.Goals as goal
 

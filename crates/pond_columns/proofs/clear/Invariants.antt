@@ -1,9 +1,6 @@
 -- The first k places are 0.
-use native.Mathlib.Omega.{arith}
-use mathlib.Core.Path.{◌≡◌}
 use Prim.Native.Nat.{◌-◌, ◌≤◌}
 use Rattle.pond_columns.specs.State.{Cleared}
-use Rattle.pond_columns.proofs.Gathering.{cleared_none, cleared_more}
 use Rattle.pond_columns.proofs.clear.Given as goal
 
 abbrev pub invariant-loop-k : goal.invariant-loop-k

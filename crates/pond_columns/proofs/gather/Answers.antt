@@ -1,13 +1,10 @@
 -- The first c cells have their numbers and are gathered into the columns.
 use native.Mathlib.Omega.{arith}
 use mathlib.Core.Path.{◌≡◌, refl, ◌∙◌}
-use Prim.Native.Nat.{◌-◌, ◌≤◌}
-use lib.ListN.{length, length-set}
+use Prim.Native.Nat.{◌-◌}
+use lib.ListN.{length-set}
 use Rattle.grid.specs.Sheet.{size}
-use Rattle.grid.specs.Fill.{filled}
-use Rattle.grid.specs.Ponds.{ponds as ponds', pond_count}
-use Rattle.pond_laws.specs.Gathered.{Gathered}
-use Rattle.pond_columns.proofs.Gathering.{WrittenTo, write_more, written_all, gather_first, number_is, fits, added}
+use Rattle.pond_columns.proofs.Gathering.{write_more, written_all, gather_first, number_is, fits, added}
 use Rattle.pond_columns.proofs.gather.Goals as goal
 
 pub overflow_mul-n : goal.overflow_mul-n

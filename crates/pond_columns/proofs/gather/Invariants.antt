@@ -1,13 +1,12 @@
 -- The first c cells have their numbers and are gathered into the columns.
-use native.Mathlib.Omega.{arith}
-use mathlib.Core.Path.{◌≡◌, refl, ◌∙◌}
+use mathlib.Core.Path.{◌≡◌}
 use Prim.Native.Nat.{◌-◌, ◌≤◌}
-use lib.ListN.{length, length-set}
+use lib.ListN.{length}
 use Rattle.grid.specs.Sheet.{size}
 use Rattle.grid.specs.Fill.{filled}
 use Rattle.grid.specs.Ponds.{ponds as ponds', pond_count}
 use Rattle.pond_laws.specs.Gathered.{Gathered}
-use Rattle.pond_columns.proofs.Gathering.{WrittenTo, write_more, written_all, gather_first, number_is, fits, added}
+use Rattle.pond_columns.proofs.Gathering.{WrittenTo}
 use Rattle.pond_columns.proofs.gather.Given as goal
 
 abbrev pub invariant-loop-c : goal.invariant-loop-c

@@ -2,7 +2,6 @@
 use native.Mathlib.Omega.{arith}
 use Rattle.grid.specs.Sheet.{size}
 use Rattle.pond_columns.proofs.Gathering.{count_is, one_cleared, gathered_from}
-use borrow.Author.Rules.{rules}
 use Rattle.pond_columns.proofs.list.Goals as goal
 
 pub gather-requires : goal.gather-requires

@@ -4,7 +4,6 @@ use mir.Facts.{to_z-of_z}
 use borrow.Author.Rules.{sfits_of}
 use lib.ListN.{set}
 use lib.IntN.{ℤ}
-use borrow.Author.Rules.{rules}
 use Rattle.pond_columns.proofs.put.Goals as goal
 
 pub returns : goal.returns

@@ -1,10 +1,10 @@
 -- The first c cells are marked.
 use native.Mathlib.Omega.{arith}
-use Prim.Native.Nat.{◌-◌, ◌≤◌}
+use Prim.Native.Nat.{◌-◌}
 use mathlib.Core.Path.{◌≡◌, refl, ◌∙◌}
-use lib.ListN.{length, length-set}
+use lib.ListN.{length-set}
 use Rattle.grid.specs.Sheet.{size}
-use Rattle.pond_numbers.proofs.Numbering.{MarkedTo, mark_more, marked_all}
+use Rattle.pond_numbers.proofs.Numbering.{mark_more, marked_all}
 use Rattle.pond_numbers.proofs.mark_wet.Goals as goal
 
 pub overflow_mul-n : goal.overflow_mul-n

@@ -1,10 +1,8 @@
 -- The first c cells are marked.
-use native.Mathlib.Omega.{arith}
 use Prim.Native.Nat.{◌-◌, ◌≤◌}
-use mathlib.Core.Path.{◌≡◌, refl, ◌∙◌}
-use lib.ListN.{length, length-set}
-use Rattle.grid.specs.Sheet.{size}
-use Rattle.pond_numbers.proofs.Numbering.{MarkedTo, mark_more, marked_all}
+use mathlib.Core.Path.{◌≡◌}
+use lib.ListN.{length}
+use Rattle.pond_numbers.proofs.Numbering.{MarkedTo}
 use Rattle.pond_numbers.proofs.mark_wet.Given as goal
 
 abbrev pub invariant-loop-c : goal.invariant-loop-c

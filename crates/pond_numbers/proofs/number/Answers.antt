@@ -2,10 +2,9 @@
 use native.Mathlib.Omega.{arith}
 use mathlib.Core.Logic.{⊎_elim}
 use mathlib.Core.Path.{◌≡◌, refl, sym, ◌∙◌, ap}
-use Prim.Native.Nat.{ℕ, ◌-◌, ◌/◌, ◌≤◌}
+use Prim.Native.Nat.{ℕ, ◌-◌, ◌/◌}
 use lib.ListN.{length}
 use Rattle.grid.specs.Sheet.{size}
-use Rattle.pond_numbers.specs.State.{Numbered}
 use Rattle.pond_numbers.proofs.Numbering.{sizes_same, passed_by}
 use Rattle.pond_numbers.proofs.number.Goals as goal
 

@@ -1,12 +1,9 @@
 -- The ponds are numbered whose lowest cell is one of the first c.
-use native.Mathlib.Omega.{arith}
-use mathlib.Core.Logic.{⊎_elim}
-use mathlib.Core.Path.{◌≡◌, refl, sym, ◌∙◌, ap}
-use Prim.Native.Nat.{ℕ, ◌-◌, ◌/◌, ◌≤◌}
+use mathlib.Core.Path.{◌≡◌}
+use Prim.Native.Nat.{◌-◌, ◌≤◌}
 use lib.ListN.{length}
 use Rattle.grid.specs.Sheet.{size}
 use Rattle.pond_numbers.specs.State.{Numbered}
-use Rattle.pond_numbers.proofs.Numbering.{sizes_same, passed_by}
 use Rattle.pond_numbers.proofs.number.Given as goal
 
 abbrev pub invariant-loop-c : goal.invariant-loop-c

@@ -2,7 +2,6 @@
 use native.Mathlib.Omega.{arith}
 use Rattle.join_laws.proofs.Search.{parts_same}
 use Rattle.pond_numbers.proofs.Numbering.{parts, few_ponds, taken_long, seeded, numbered_on}
-use borrow.Author.Rules.{rules}
 use Rattle.pond_numbers.proofs.number_at.Goals as goal
 
 pub overflow_add-count : goal.overflow_add-count

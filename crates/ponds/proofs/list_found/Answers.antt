@@ -2,7 +2,6 @@
 use native.Mathlib.Omega.{arith}
 use Rattle.pond_numbers.proofs.Numbering.{sizes_same}
 use Rattle.ponds.proofs.Promise.{settled_no, settled_yes}
-use borrow.Author.Rules.{rules}
 use Rattle.ponds.proofs.list_found.Goals as goal
 
 pub returns-then-level-count : goal.returns-then-level-count

@@ -3,7 +3,6 @@ use native.Mathlib.Omega.{arith}
 use Rattle.checks.proofs.Asked.{says_no, says_yes}
 use Rattle.ponds.proofs.Promise.{promise_first, promise_columns, promise_room, promise_settled, cells_few, sizes, ponds_long}
 use Rattle.ponds.proofs.Promise.{one_length}
-use borrow.Author.Rules.{rules}
 use Rattle.std.proofs.lemmas.Bool.{not_from_false, not_from_true}
 use Rattle.ponds.proofs.ponds.Goals as goal
 
@@ -46,9 +45,9 @@ settle-requires c =
       sizes = sizes a.g a.elevations.now a.ponds.now a.level.now a.cells.now a.volume.now a.work.now c.outlets-answer.result
           c.outlets-answer.ensures z y r;
       ponds_len = ponds_long a.g a.elevations.now a.ponds.now a.level.now a.cells.now a.volume.now
-            a.work.now c.outlets-answer.result c.outlets-answer.ensures z y;
+          a.work.now c.outlets-answer.result c.outlets-answer.ensures z y;
       one_length = one_length a.g a.elevations.now a.ponds.now a.level.now a.cells.now
-            a.volume.now a.work.now c.outlets-answer.result c.outlets-answer.ensures z y;
+          a.volume.now a.work.now c.outlets-answer.result c.outlets-answer.ensures z y;
     }
 
 pub returns : goal.returns

@@ -5,7 +5,6 @@ use Rattle.grid.specs.Sheet.{size}
 use Rattle.checks.proofs.Questions.{stranded_≤}
 use Rattle.pond_numbers.proofs.Numbering.{sizes_same}
 use Rattle.ponds.proofs.Promise.{settled_stranded, settled_reached}
-use borrow.Author.Rules.{rules}
 use Rattle.ponds.proofs.settle.Goals as goal
 
 pub returns-then-first-elevations : goal.returns-then-first-elevations

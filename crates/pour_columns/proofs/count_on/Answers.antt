@@ -1,10 +1,7 @@
 -- The first n entries are counted, up to the last pair of the batch.
-use mathlib.Core.Path.{◌≡◌, refl}
-use Prim.Native.Nat.{◌+◌, ◌-◌}
+use mathlib.Core.Path.{refl}
+use Prim.Native.Nat.{◌-◌}
 use native.Mathlib.Omega.{arith}
-use lib.ListN.{length, get_or}
-use Rattle.grid.specs.PourPoints.{pour_points}
-use Rattle.pour_laws.specs.Columns.{Between}
 use Rattle.pour_laws.proofs.Columns.{between_more, scan_within}
 use Rattle.pour_laws.proofs.Few.{few_entries}
 use Rattle.pour_columns.proofs.Puts.{not_full}

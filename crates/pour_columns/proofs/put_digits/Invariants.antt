@@ -1,11 +1,8 @@
 -- The first i values are put.
-use mathlib.Core.Path.{refl}
 use Prim.Native.Nat.{◌-◌, ◌≤◌}
-use native.Mathlib.Omega.{arith}
 use lib.ListN.{get_or}
 use Prim.Native.Nat.{◌/◌, ◌%◌}
 use Rattle.pour_laws.specs.Columns.{Put}
-use Rattle.pour_columns.proofs.Puts.{digit_small, put_none, put_more, put_end}
 use Rattle.pour_columns.proofs.put_digits.Given as goal
 
 abbrev pub invariant-loop-i : goal.invariant-loop-i

@@ -1,15 +1,10 @@
 -- The first i elevations are put.
-use mathlib.Core.Path.{◌∙◌}
 use Prim.Native.Nat.{◌-◌, ◌≤◌}
-use native.Mathlib.Omega.{arith}
 use lib.ListN.{get_or}
 use Prim.Native.Nat.{◌/◌, ◌%◌}
 use lib.IntN.{pos}
-use mir.Facts.{to_z-of_z}
-use borrow.Author.Rules.{sfits_of}
 use Rattle.cells.specs.Keys.{level_of}
 use Rattle.pour_laws.specs.Columns.{Put}
-use Rattle.pour_columns.proofs.Puts.{put_none, put_more, put_end}
 use Rattle.pour_columns.proofs.put_elevations.Given as goal
 
 abbrev pub invariant-loop-i : goal.invariant-loop-i

@@ -1,23 +1,21 @@
 -- The first n entries stand in the columns, and the rest is as at entry.
-use mathlib.Core.Path.{◌≡◌, refl, subst}
-use Prim.Native.Nat.{ℕ, ◌+◌, ◌-◌}
+use mathlib.Core.Path.{refl, subst}
+use Prim.Native.Nat.{ℕ, ◌-◌}
 use native.Mathlib.Omega.{arith}
-use lib.ListN.{length}
 use Rattle.grid.specs.PourPoints.{pour_points}
-use Rattle.pour_laws.specs.Columns.{Between, ColumnsTo}
+use Rattle.pour_laws.specs.Columns.{Between}
 use Rattle.pour_laws.proofs.Columns.{between_none, between_more, scan_within, columns_none, columns_more, columns_whole}
 use Rattle.pour_laws.proofs.Few.{few_entries}
 use Rattle.pour_columns.proofs.Puts.{still_one, not_full}
 use Rattle.pour_columns.proofs.write_all.Goals as goal
 
 pub loop-k-init : goal.loop-k-init
-loop-k-init c =
-    (
-      c.requires.pairs_len,
-      c.requires.ranks_len,
-      between_none c.args.g c.args.elevations.now c.args.labels.now c.requires.elevations_len 16384 refl,
-      columns_none,
-    )
+loop-k-init c = (
+  c.requires.pairs_len,
+  c.requires.ranks_len,
+  between_none c.args.g c.args.elevations.now c.args.labels.now c.requires.elevations_len 16384 refl,
+  columns_none,
+)
 
 pub write_next-k-requires : goal.write_next-k-requires
 write_next-k-requires c =
@@ -73,8 +71,7 @@ loop-k-preserved c =
     let g = c.args.g in
     let e = c.args.elevations.now in
     let labels = c.args.labels.now in
-    let long = c.requires.elevations_len in
-    (
+    let long = c.requires.elevations_len in (
       c.write_next-k.ensures.room.pairs_long,
       c.write_next-k.ensures.room.ranks_long,
       between_more g e labels long c.loop-k.invariant.2 t c.write_next-k.ensures.batch c.write_next-k.ensures.room.within refl,

@@ -1,13 +1,9 @@
 -- The first n entries stand in the columns, and the rest is as at entry.
-use mathlib.Core.Path.{◌≡◌, refl, subst}
-use Prim.Native.Nat.{ℕ, ◌+◌, ◌-◌}
-use native.Mathlib.Omega.{arith}
+use mathlib.Core.Path.{◌≡◌}
+use Prim.Native.Nat.{◌+◌, ◌-◌}
 use lib.ListN.{length}
 use Rattle.grid.specs.PourPoints.{pour_points}
 use Rattle.pour_laws.specs.Columns.{Between, ColumnsTo}
-use Rattle.pour_laws.proofs.Columns.{between_none, between_more, scan_within, columns_none, columns_more, columns_whole}
-use Rattle.pour_laws.proofs.Few.{few_entries}
-use Rattle.pour_columns.proofs.Puts.{still_one, not_full}
 use Rattle.pour_columns.proofs.write_all.Given as goal
 
 abbrev pub invariant-loop-k : goal.invariant-loop-k

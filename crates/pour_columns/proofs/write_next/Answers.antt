@@ -1,5 +1,4 @@
 -- The next entries are within the columns, since all entries are.
-use borrow.Author.Rules.{rules}
 use mathlib.Core.Path.{refl}
 use native.Mathlib.Omega.{arith}
 use Rattle.pour_laws.proofs.Columns.{scan_within}

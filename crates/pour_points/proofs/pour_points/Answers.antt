@@ -1,5 +1,4 @@
 -- At each no the columns are as at entry; after the last yes the promise is what `settle` leaves.
-use borrow.Author.Rules.{rules}
 use Rattle.checks.proofs.Asked.{says_no, says_yes}
 use Rattle.pour_points.proofs.Promise.{promise_first, promise_lengths, promise_settled, can_scan, one_length_of, sizes}
 use Rattle.std.proofs.lemmas.Bool.{not_from_false, not_from_true}
@@ -30,7 +29,7 @@ settle-requires c =
       scanned = can_scan g labels z.inputs_have.1.0 z.fits;
       elevations_len = z.inputs_have.0;
       one_length = one_length_of (says_yes c.one_length.ensures
-            (not_from_true _ c.if-not-one_length.false));
+          (not_from_true _ c.if-not-one_length.false));
     }
 
 pub returns : goal.returns

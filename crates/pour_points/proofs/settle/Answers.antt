@@ -1,5 +1,4 @@
 -- By whether the first batch is full.
-use borrow.Author.Rules.{rules}
 use Prim.Native.Nat.{ℕ}
 use lib.ListN.{length-replicate}
 use Rattle.pour_points.proofs.settle.Goals as goal

@@ -1,5 +1,4 @@
 -- A batch that is not full has all entries.
-use borrow.Author.Rules.{rules}
 use Rattle.grid.specs.PourPoints.{pour_points}
 use Rattle.pour_laws.proofs.Columns.{few_are, few_written, settled_no, settled_yes}
 use Rattle.pour_points.proofs.settle_few.Goals as goal

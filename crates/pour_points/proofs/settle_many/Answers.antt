@@ -1,5 +1,4 @@
 -- The entries are counted, and written after a yes.
-use borrow.Author.Rules.{rules}
 use native.Mathlib.Omega.{arith}
 use Rattle.grid.specs.PourPoints.{pour_points}
 use Rattle.pour_laws.proofs.Columns.{first_batch, settled_no, settled_yes}

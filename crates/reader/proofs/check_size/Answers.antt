@@ -1,12 +1,9 @@
 -- `reader::check_size`: each return is a case of `size_check`.
 use mathlib.Core.Path.{sym, ◌∙◌}
 use native.Mathlib.Omega.{arith}
-use borrow.Author.Tests.{not-true, not-false}
 use Rattle.reader.proofs.Gate.{cells_small, too_many_cells, bad_rows, bad_cols, no_room, room_enough}
-use borrow.Author.Rules.{rules}
 use Rattle.reader.proofs.check_size.Reads as reads
 use Rattle.reader.proofs.check_size.Lts as lts
-use Rattle.std.proofs.lemmas.Bool.{not_from_false, not_from_true}
 use Rattle.reader.proofs.check_size.Goals as goal
 
 pub overflow_mul-size : goal.overflow_mul-size

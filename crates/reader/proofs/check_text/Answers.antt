@@ -2,7 +2,6 @@
 use mathlib.Core.Path.{sym, ◌∙◌}
 use native.Mathlib.Omega.{arith}
 use Rattle.reader.proofs.Gate.{too_long, bad_byte, shaped, not_shaped}
-use borrow.Author.Rules.{rules}
 use Rattle.reader.proofs.check_text.Reads as reads
 use Rattle.reader.proofs.check_text.Lts as lts
 use Rattle.text_checks.proofs.first_bad_byte.Reads as first-bad-byte-reads

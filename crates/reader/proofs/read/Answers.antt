@@ -3,7 +3,6 @@ use mathlib.Core.Path.{sym, ap, ◌∙◌}
 use native.Mathlib.Omega.{arith}
 use Rattle.grid.specs.declared.Answer.{Answer}
 use Rattle.reader.proofs.Gate.{text_accepted, size_accepted, text_refused, size_refused, all_read}
-use borrow.Author.Rules.{rules}
 use Rattle.reader.proofs.read.Reads as reads
 use Rattle.reader.proofs.read.Lts as lts
 use Rattle.reader.proofs.check_size.Reads as check-size-reads

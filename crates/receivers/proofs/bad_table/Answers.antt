@@ -1,6 +1,5 @@
 -- The nine stores give the table: computed.
 use Rattle.receivers.proofs.Codes.{bad_table_is}
-use borrow.Author.Rules.{rules}
 use Rattle.receivers.proofs.bad_table.Goals as goal
 
 pub returns : goal.returns

@@ -2,7 +2,6 @@
 use Prim.Native.Nat.{ℕ, ◌+◌}
 use mathlib.Core.Path.{◌∙◌, ap}
 use Rattle.receivers.proofs.Written.{same_row, next_row}
-use borrow.Author.Rules.{rules}
 use Rattle.receivers.proofs.col_after.Goals as goal
 
 pub returns-then-col-cols : goal.returns-then-col-cols

@@ -1,5 +1,4 @@
 -- The first that the table has.
-use borrow.Author.Rules.{rules}
 use Rattle.receivers.proofs.Codes.{first_bad_is}
 use Rattle.receivers.proofs.first_bad_code.Goals as goal
 

@@ -1,12 +1,11 @@
 -- Every byte before the present one is allowed.
-use Prim.Native.Nat.{ℕ, ◌≤◌, ◌<◌, ◌-◌}
-use mathlib.Core.Path.{◌≡◌, sym, ◌∙◌, ap}
+use Prim.Native.Nat.{ℕ, ◌<◌, ◌-◌}
+use mathlib.Core.Path.{sym, ◌∙◌, ap}
 use mathlib.Core.Bool.{true}
 use mathlib.Core.List.{List}
 use native.Mathlib.Omega.{arith}
-use lib.ListN.{length, get_or}
+use lib.ListN.{get_or}
 use borrow.Author.Count.{below_more}
-use Rattle.receivers.specs.Written.{is_allowed}
 use Rattle.receivers.proofs.Codes.{bad_yes, bad_no}
 use Rattle.receivers.proofs.first_in.Goals as goal
 

@@ -1,6 +1,5 @@
 -- The mark by its three tests.
 use native.Mathlib.Omega.{arith}
-use borrow.Author.Rules.{rules}
 use Rattle.receivers.proofs.Codes.{position_small, mark_zero, mark_off, mark_stop, mark_on}
 use Rattle.receivers.proofs.mark.Goals as goal
 

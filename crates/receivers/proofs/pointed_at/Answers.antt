@@ -6,7 +6,6 @@ use lib.ListN.{get_or}
 use Rattle.grid.specs.Sheet.{size, position_of, neighbour}
 use Rattle.cells.proofs.Steps.{place_small}
 use Rattle.receivers.proofs.Codes.{reached}
-use borrow.Author.Rules.{rules}
 use Rattle.receivers.proofs.pointed_at.Goals as goal
 
 -- what the test for an inner cell says

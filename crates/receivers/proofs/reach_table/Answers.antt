@@ -2,7 +2,7 @@
 use mathlib.Core.Path.{refl}
 use Prim.Native.Nat.{◌-◌, ◌<◌}
 use native.Mathlib.Omega.{arith}
-use Rattle.receivers.proofs.Codes.{ReachTo, code_small, reach_none, reach_more, reach_all}
+use Rattle.receivers.proofs.Codes.{code_small, reach_none, reach_more, reach_all}
 use Rattle.receivers.proofs.reach_table.Goals as goal
 
 pub offsets-offsets-requires : goal.offsets-offsets-requires

@@ -1,8 +1,6 @@
 -- Position by position: the codes are eight different places.
-use mathlib.Core.Path.{refl}
-use Prim.Native.Nat.{◌-◌, ◌<◌}
-use native.Mathlib.Omega.{arith}
-use Rattle.receivers.proofs.Codes.{ReachTo, code_small, reach_none, reach_more, reach_all}
+use Prim.Native.Nat.{◌-◌}
+use Rattle.receivers.proofs.Codes.{ReachTo}
 use Rattle.receivers.proofs.reach_table.Given as goal
 
 abbrev pub invariant-loop-p : goal.invariant-loop-p

@@ -4,7 +4,6 @@ use native.Mathlib.Nat.{mul_comm, le-mul_of_pos_right}
 use native.Mathlib.Omega.{arith}
 use Rattle.grid.specs.Sheet.{size}
 use Rattle.receivers.proofs.Written.{written_front}
-use borrow.Author.Rules.{rules}
 use Rattle.receivers.proofs.receivers_from.Goals as goal
 
 pub reach_table-table-requires : goal.reach_table-table-requires

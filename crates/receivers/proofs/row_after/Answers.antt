@@ -4,7 +4,6 @@ use mathlib.Core.Path.{◌∙◌, ap}
 use native.Mathlib.Omega.{arith}
 use native.Mathlib.Nat.{div-le_self}
 use Rattle.receivers.proofs.Written.{same_row, next_row}
-use borrow.Author.Rules.{rules}
 use Rattle.receivers.proofs.row_after.Goals as goal
 
 pub returns-then-col-cols : goal.returns-then-col-cols

@@ -1,8 +1,7 @@
 -- The marks of the cells passed stand; row and column are those of the present cell.
-use Prim.Native.Nat.{ℕ, ◌-◌, ◌/◌, ◌%◌, ◌≤◌}
+use Prim.Native.Nat.{ℕ, ◌-◌}
 use mathlib.Core.Path.{◌≡◌, subst}
 use native.Mathlib.Omega.{arith}
-use borrow.Author.Rules.{rules}
 use native.Mathlib.Nat.{mod-lt, mod-le, div-le_self}
 use Rattle.grid.specs.Sheet.{size}
 use Rattle.grid_laws.proofs.Neighbours.{cols_positive}
@@ -11,13 +10,12 @@ use Rattle.receivers.proofs.Written.{written_none, written_more}
 use Rattle.receivers.proofs.write_marks.Goals as goal
 
 pub loop-cell-init : goal.loop-cell-init
-loop-cell-init c =
-    (
-      omega arith,
-      omega (arith, div-le_self 0 c.args.g.cols),
-      omega (arith, mod-le 0 c.args.g.cols),
-      written_none c.args.g c.args.codes.now c.args.tail.now,
-    )
+loop-cell-init c = (
+  omega arith,
+  omega (arith, div-le_self 0 c.args.g.cols),
+  omega (arith, mod-le 0 c.args.g.cols),
+  written_none c.args.g c.args.codes.now c.args.tail.now,
+)
 
 pub mark-requires : goal.mark-requires
 mark-requires c =
@@ -70,8 +68,7 @@ loop-cell-smaller c = let t = c.loop-cell-test.true in omega arith
 
 pub loop-cell-preserved : goal.loop-cell-preserved
 loop-cell-preserved c =
-    let t = c.loop-cell-test.true in
-    (
+    let t = c.loop-cell-test.true in (
       omega arith,
       c.row_after-row.ensures,
       c.col_after-col.ensures,

@@ -1,13 +1,8 @@
 -- The marks of the cells passed stand; row and column are those of the present cell.
-use Prim.Native.Nat.{ℕ, ◌-◌, ◌/◌, ◌%◌, ◌≤◌}
-use mathlib.Core.Path.{◌≡◌, subst}
-use native.Mathlib.Omega.{arith}
-use borrow.Author.Rules.{rules}
-use native.Mathlib.Nat.{mod-lt, mod-le, div-le_self}
+use Prim.Native.Nat.{◌-◌, ◌/◌, ◌%◌, ◌≤◌}
+use mathlib.Core.Path.{◌≡◌}
 use Rattle.grid.specs.Sheet.{size}
-use Rattle.grid_laws.proofs.Neighbours.{cols_positive}
 use Rattle.receivers.specs.Written.{WrittenTo}
-use Rattle.receivers.proofs.Written.{written_none, written_more}
 use Rattle.receivers.proofs.write_marks.Given as goal
 
 abbrev pub invariant-loop-cell : goal.invariant-loop-cell

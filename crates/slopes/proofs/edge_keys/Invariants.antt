@@ -1,10 +1,8 @@
-use mathlib.Core.Path.{◌≡◌, refl, ◌∙◌, ap, subst}
-use Prim.Native.Nat.{ℕ, ◌-◌}
-use native.Mathlib.Omega.{arith}
+use Prim.Native.Nat.{◌-◌}
 use Rattle.grid.specs.Sheet.{at}
 use Rattle.cells.specs.Keys.{key_of}
 use Rattle.slopes.specs.Steepest.{key_or}
-use Rattle.slopes.proofs.Drops.{Gathered, gathered_none, gathered_more, edge_all}
+use Rattle.slopes.proofs.Drops.{Gathered}
 use Rattle.slopes.proofs.edge_keys.Given as goal
 
 abbrev pub invariant-loop-p : goal.invariant-loop-p

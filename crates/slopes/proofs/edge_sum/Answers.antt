@@ -1,6 +1,5 @@
 use mathlib.Core.Path.{◌∙◌}
 use Rattle.slopes.proofs.Drops.{edge_is}
-use borrow.Author.Rules.{rules}
 use Rattle.slopes.proofs.edge_sum.Goals as goal
 
 pub returns : goal.returns

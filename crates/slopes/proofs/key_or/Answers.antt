@@ -1,6 +1,5 @@
 use mathlib.Core.Path.{sym}
 use Rattle.slopes.proofs.Drops.{key_or_void, key_or_data}
-use borrow.Author.Rules.{rules}
 use Rattle.slopes.proofs.key_or.Goals as goal
 
 pub returns-then-key-eq0 : goal.returns-then-key-eq0

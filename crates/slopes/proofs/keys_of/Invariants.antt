@@ -1,14 +1,5 @@
-use mathlib.Core.Path.{◌≡◌, refl, subst}
-use Prim.Native.Nat.{◌-◌, ◌<◌}
-use native.Mathlib.Omega.{arith}
-use lib.ListN.{length, get_or}
-use lib.IntN.{pos}
-use mir.Syntax.{w16}
-use mir.Val.{to_z, of_z}
-use mir.Facts.{to_z-of_z}
-use borrow.Author.Rules.{sfits_of}
-use Rattle.cells.proofs.Keys.{Known, known_read}
-use Rattle.slopes.proofs.Drops.{Gathered, gathered_none, gathered_more, keys_all}
+use Prim.Native.Nat.{◌-◌}
+use Rattle.slopes.proofs.Drops.{Gathered}
 use Rattle.slopes.proofs.keys_of.Given as goal
 
 abbrev pub invariant-loop-p : goal.invariant-loop-p

@@ -3,7 +3,6 @@ use mathlib.Core.Path.{◌∙◌, ap₂}
 use Prim.Native.Nat.{◌+◌}
 use native.Mathlib.Omega.{arith}
 use Rattle.slopes.proofs.Classes.{bit, larger_is}
-use borrow.Author.Rules.{rules}
 use Rattle.slopes.proofs.larger.Goals as goal
 
 pub overflow_add-result : goal.overflow_add-result

@@ -3,7 +3,6 @@ use mathlib.Core.Path.{◌∙◌, ap₂}
 use Prim.Native.Nat.{◌+◌}
 use native.Mathlib.Omega.{arith}
 use Rattle.slopes.proofs.Classes.{bit, largest_is}
-use borrow.Author.Rules.{rules}
 use Rattle.slopes.proofs.largest.Goals as goal
 
 pub weight-ab-requires : goal.weight-ab-requires

@@ -2,7 +2,6 @@ use mathlib.Core.Path.{sym, ◌∙◌, ap}
 use mathlib.Core.Bool.{Bool, ◌&&◌}
 use lib.Dec.{leb}
 use Rattle.grid_laws.proofs.Tests.{and_false_left}
-use borrow.Author.Rules.{rules}
 use Rattle.slopes.proofs.leads_both.Goals as goal
 
 pub returns-then-leads : goal.returns-then-leads

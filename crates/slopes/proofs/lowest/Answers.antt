@@ -1,6 +1,5 @@
 use mathlib.Core.Path.{◌∙◌, ap₂}
 use Rattle.slopes.specs.Steepest.{lower_of}
-use borrow.Author.Rules.{rules}
 use Rattle.slopes.proofs.lowest.Goals as goal
 
 pub returns : goal.returns

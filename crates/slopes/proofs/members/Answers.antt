@@ -4,7 +4,6 @@ use native.Mathlib.Omega.{arith}
 use lib.Dec.{eqb}
 use Rattle.slopes.specs.Steepest.{members_of}
 use Rattle.slopes.proofs.Classes.{bit, members_small}
-use borrow.Author.Rules.{rules}
 use Rattle.slopes.proofs.members.Goals as goal
 
 -- the sum of the four

@@ -1,6 +1,5 @@
 use mathlib.Core.Path.{◌∙◌}
 use Rattle.slopes.proofs.Drops.{marked_by, marked_is}
-use borrow.Author.Rules.{rules}
 use Rattle.slopes.proofs.oblong_sum.Goals as goal
 
 pub keys_of-keys-requires : goal.keys_of-keys-requires

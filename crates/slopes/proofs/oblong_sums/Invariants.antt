@@ -1,9 +1,6 @@
 -- As for square cells, with the sums of any shape.
-use Prim.Native.Nat.{◌-◌, ◌<◌}
-use native.Mathlib.Omega.{arith}
-use lib.ListN.{length}
-use borrow.Author.Rules.{rules}
-use Rattle.slopes.proofs.Rows.{Summing, summing_none, summing_more, summed}
+use Prim.Native.Nat.{◌-◌}
+use Rattle.slopes.proofs.Rows.{Summing}
 use Rattle.slopes.proofs.oblong_sums.Given as goal
 
 abbrev pub invariant-loop-cell : goal.invariant-loop-cell

@@ -3,7 +3,6 @@ use Prim.Native.Nat.{ℕ, ◌+◌, ◌≤◌}
 use native.Mathlib.Omega.{arith}
 use Rattle.slopes.specs.Steepest.{pair_of}
 use Rattle.slopes.proofs.Classes.{pair_small}
-use borrow.Author.Rules.{rules}
 use Rattle.slopes.proofs.pair.Goals as goal
 
 -- the sum of the two

@@ -1,4 +1,3 @@
-use borrow.Author.Rules.{rules}
 use Rattle.slopes.proofs.row_sums.Goals as goal
 
 pub square_sums-requires : goal.square_sums-requires

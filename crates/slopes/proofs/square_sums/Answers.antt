@@ -2,8 +2,7 @@
 use Prim.Native.Nat.{◌-◌, ◌<◌}
 use native.Mathlib.Omega.{arith}
 use lib.ListN.{length}
-use borrow.Author.Rules.{rules}
-use Rattle.slopes.proofs.Rows.{Summing, summing_none, summing_more, summed}
+use Rattle.slopes.proofs.Rows.{summing_none, summing_more, summed}
 use Rattle.slopes.proofs.square_sums.Goals as goal
 
 pub loop-cell-init : goal.loop-cell-init

@@ -1,9 +1,6 @@
 -- One cell after the other: those from `from` to the cell at hand have their sums, and those before `from` what they had.
-use Prim.Native.Nat.{◌-◌, ◌<◌}
-use native.Mathlib.Omega.{arith}
-use lib.ListN.{length}
-use borrow.Author.Rules.{rules}
-use Rattle.slopes.proofs.Rows.{Summing, summing_none, summing_more, summed}
+use Prim.Native.Nat.{◌-◌}
+use Rattle.slopes.proofs.Rows.{Summing}
 use Rattle.slopes.proofs.square_sums.Given as goal
 
 abbrev pub invariant-loop-cell : goal.invariant-loop-cell

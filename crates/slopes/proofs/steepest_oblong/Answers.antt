@@ -4,7 +4,6 @@ use Prim.Native.Nat.{◌*◌}
 use native.Mathlib.Omega.{arith}
 use Rattle.slopes.proofs.Products.{side_small, side_above}
 use Rattle.slopes.proofs.Classes.{oblong_by}
-use borrow.Author.Rules.{rules}
 use Rattle.slopes.proofs.steepest_oblong.Goals as goal
 
 pub overflow_mul-w : goal.overflow_mul-w

@@ -1,5 +1,4 @@
 use Rattle.slopes.proofs.Classes.{square_by}
-use borrow.Author.Rules.{rules}
 use Rattle.slopes.proofs.steepest_square.Goals as goal
 
 pub returns : goal.returns

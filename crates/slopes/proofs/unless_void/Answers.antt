@@ -1,5 +1,4 @@
 use Rattle.slopes.proofs.Classes.{void_by}
-use borrow.Author.Rules.{rules}
 use Rattle.slopes.proofs.unless_void.Goals as goal
 
 pub returns : goal.returns

@@ -1,6 +1,5 @@
 use native.Mathlib.Omega.{arith}
 use Rattle.slopes.proofs.Products.{square_small, weight_small}
-use borrow.Author.Rules.{rules}
 use Rattle.slopes.proofs.weight.Goals as goal
 
 pub overflow_mul-result : goal.overflow_mul-result

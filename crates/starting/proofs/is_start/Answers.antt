@@ -1,6 +1,5 @@
 -- Each return is one part of the test.
 use Rattle.starting.proofs.Numbers.{ends_there, too_few, by_rise}
-use borrow.Author.Rules.{rules}
 use Rattle.starting.proofs.is_start.Goals as goal
 
 pub returns-then-next-n : goal.returns-then-next-n

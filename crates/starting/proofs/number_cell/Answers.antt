@@ -1,6 +1,5 @@
 -- By the answer to the test.
 use Rattle.starting.proofs.Numbers.{no_number, one_number}
-use borrow.Author.Rules.{rules}
 use Rattle.std.proofs.lemmas.Bool.{not_from_false, not_from_true}
 use Rattle.starting.proofs.number_cell.Goals as goal
 

@@ -1,9 +1,6 @@
 -- The cells below c are numbered, and `found` of them are starts; that is at most c, so the sum fits.
-use mathlib.Core.Path.{◌∙◌}
 use Prim.Native.Nat.{◌-◌, ◌≤◌}
-use native.Mathlib.Omega.{arith}
 use Rattle.starting.specs.Marked.{NumberedTo}
-use Rattle.starting.proofs.Numbers.{numbered_none, numbered_more, found_small, all_numbered}
 use Rattle.starting.proofs.number_starts.Given as goal
 
 abbrev pub invariant-loop-c : goal.invariant-loop-c

@@ -1,7 +1,6 @@
 -- The tail begins with the receivers after each step, so the starts by marks are those of the codes.
 use native.Mathlib.Omega.{arith}
 use Rattle.starts.proofs.Into.{ready, endless_started, all_started}
-use borrow.Author.Rules.{rules}
 use Rattle.starts.proofs.starts_into.Goals as goal
 
 pub receivers_from-requires : goal.receivers_from-requires

@@ -1,6 +1,5 @@
 -- The part that is handed back, by its place in the first list and its length.
 use native.Mathlib.Omega.{arith}
-use borrow.Author.Rules.{rules}
 use Rattle.ending.proofs.Promise.{part_fits, by_place}
 use Rattle.tervuola.proofs.tervuola_shared_ending.Goals as goal
 

@@ -1,7 +1,6 @@
 -- `text_checks::ends_line`: the end of the header, within it, and past it.
 use mathlib.Core.Path.{sym}
 use Rattle.text_laws.proofs.Ends.{header_ends, in_header, in_lines}
-use borrow.Author.Rules.{rules}
 use Rattle.text_checks.proofs.ends_line.Reads as reads
 use Rattle.text_checks.proofs.ends_line.Lts as lts
 use Rattle.text_checks.proofs.ends_line.Goals as goal

@@ -1,16 +1,13 @@
 -- `text_checks::feeds_end_lines`: every byte before the place is right.
 use mathlib.Core.Path.{sym, ◌∙◌}
-use Prim.Native.Nat.{◌-◌, ◌≤◌}
+use Prim.Native.Nat.{◌-◌}
 use native.Mathlib.Omega.{arith}
-use lib.ListN.{length}
 use borrow.Author.Count.{below_none, below_more}
-use borrow.Author.Tests.{not-true, not-false}
-use Rattle.text_checks.proofs.Bytes.{PlacedTo, all_placed, one_misplaced}
+use Rattle.text_checks.proofs.Bytes.{all_placed, one_misplaced}
 use Rattle.text_checks.proofs.feeds_end_lines.Reads as reads
 use Rattle.text_checks.proofs.feeds_end_lines.Lts as lts
 use Rattle.cursor.proofs.Cursor.byte.Reads as byte-Reads
 use Rattle.text_checks.proofs.is_placed.Reads as is-placed-reads
-use Rattle.std.proofs.lemmas.Bool.{not_from_false, not_from_true}
 use Rattle.text_checks.proofs.feeds_end_lines.Goals as goal
 
 pub loop-next-init : goal.loop-next-init

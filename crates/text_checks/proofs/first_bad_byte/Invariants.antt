@@ -1,11 +1,7 @@
 -- `text_checks::first_bad_byte`: every byte before the place is a digit or a line feed.
-use mathlib.Core.Path.{sym, ◌∙◌}
 use Prim.Native.Nat.{◌-◌, ◌≤◌}
-use native.Mathlib.Omega.{arith}
 use lib.ListN.{length}
-use borrow.Author.Count.{below_none, below_more}
-use borrow.Author.Tests.{not-true, not-false}
-use Rattle.text_checks.proofs.Bytes.{FineTo, bad_byte, no_bad_byte}
+use Rattle.text_checks.proofs.Bytes.{FineTo}
 use Rattle.text_checks.proofs.first_bad_byte.Reads as reads
 use Rattle.text_checks.proofs.first_bad_byte.Lts as lts
 use Rattle.cursor.proofs.Cursor.byte.Reads as byte-Reads

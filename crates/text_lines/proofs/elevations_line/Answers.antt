@@ -1,13 +1,11 @@
 -- `text_lines::elevations_line`: q cells of the line are stored, and then its line feed.
 use mathlib.Core.Path.{◌≡◌, refl}
-use Prim.Native.Nat.{◌-◌, ◌≤◌}
+use Prim.Native.Nat.{◌-◌}
 use native.Mathlib.Omega.{arith}
 use lib.ListN.{length-set}
 use Rattle.grid.specs.Sheet.{at}
-use Rattle.grid.specs.Frames.{to_twos}
-use Rattle.text_lines.specs.Sixteen.{SixteenFrom}
 use Rattle.text_lines.proofs.Sixteen.{none_read, one_read, more_read}
-use Rattle.text_lines.proofs.Lines.{CellsTo, cells_none, cells_more, cells_end}
+use Rattle.text_lines.proofs.Lines.{cells_none, cells_more, cells_end}
 use Rattle.text_lines.proofs.elevations_line.Reads as reads
 use Rattle.text_lines.proofs.elevations_line.Lts as lts
 use Rattle.text_lines.proofs.put_hex.Reads as put-hex-reads
@@ -33,12 +31,11 @@ pub loop-q-smaller : goal.loop-q-smaller
 loop-q-smaller c = omega arith
 
 pub loop-q-preserved : goal.loop-q-preserved
-loop-q-preserved c =
-    (
-      omega arith,
-      cells_more 4 _ _ _ _ _ c.loop-q.invariant.1 c.twos_at-v.ensures.value c.put_hex-next.ensures,
-      more_read refl c.loop-q.invariant.2 (one_read c.twos_at-v.ensures.elevation),
-    )
+loop-q-preserved c = (
+  omega arith,
+  cells_more 4 _ _ _ _ _ c.loop-q.invariant.1 c.twos_at-v.ensures.value c.put_hex-next.ensures,
+  more_read refl c.loop-q.invariant.2 (one_read c.twos_at-v.ensures.elevation),
+)
 
 pub bounds-out-next : goal.bounds-out-next
 bounds-out-next c = omega arith

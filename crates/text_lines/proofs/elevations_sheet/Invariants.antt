@@ -1,15 +1,9 @@
 -- `text_lines::elevations_sheet`: r lines of the sheet are stored.
-use mathlib.Core.Path.{◌≡◌, sym, ap, ◌∙◌}
-use Prim.Native.Nat.{ℕ, ◌+◌, ◌-◌, ◌*◌, ◌≤◌}
-use native.Mathlib.Nat.{zero-add}
-use native.Mathlib.Omega.{arith}
+use Prim.Native.Nat.{◌-◌, ◌≤◌}
 use Rattle.grid.specs.Sheet.{at}
 use Rattle.grid.specs.Frames.{to_twos}
-use Rattle.text_laws.proofs.Runs.{one_more_fits}
-use Rattle.text_laws.proofs.Digits.{sheet_lines}
 use Rattle.text_lines.specs.Sixteen.{SixteenFrom}
-use Rattle.text_lines.proofs.Sixteen.{none_read, more_read, all_read}
-use Rattle.text_lines.proofs.Lines.{LinesTo, lines_none, lines_more, lines_end}
+use Rattle.text_lines.proofs.Lines.{LinesTo}
 use Rattle.text_lines.proofs.elevations_sheet.Reads as reads
 use Rattle.text_lines.proofs.elevations_sheet.Lts as lts
 use Rattle.text_lines.proofs.elevations_line.Reads as elevations-line-reads

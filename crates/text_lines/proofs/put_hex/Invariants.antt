@@ -1,12 +1,9 @@
 -- `text_lines::put_hex`: what is stored, with the digits that are left stored too, is the whole number.
-use mathlib.Core.Path.{◌≡◌, refl, sym, ap, ◌∙◌}
-use mathlib.Core.List.{List}
-use Prim.Native.Nat.{ℕ, suc, ◌+◌, ◌-◌, ◌/◌, ◌≤◌}
-use native.Mathlib.Omega.{arith}
-use lib.ListN.{length, set, length-set}
+use mathlib.Core.Path.{◌≡◌}
+use Prim.Native.Nat.{◌-◌, ◌≤◌}
+use lib.ListN.{length}
 use lib.Seq.{sets}
 use Rattle.grid.specs.Frames.{hex_text}
-use Rattle.text_laws.proofs.Digits.{length_hex, last_digit, no_digit}
 use Rattle.text_lines.proofs.put_hex.Reads as reads
 use Rattle.text_lines.proofs.put_hex.Lts as lts
 use Rattle.text_lines.proofs.upper_digit.Reads as upper-digit-reads

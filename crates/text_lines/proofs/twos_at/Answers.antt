@@ -6,7 +6,7 @@ use mir.Val.{to_z, of_z}
 use native.Mathlib.Omega.{arith}
 use lib.IntN.{pos}
 use lib.ListN.{get_or}
-use borrow.Author.Rules.{rules, sfits_of}
+use borrow.Author.Rules.{sfits_of}
 use Rattle.grid.specs.Sheet.{IsElevation}
 use Rattle.grid.specs.Frames.{to_twos}
 use Rattle.grid_laws.proofs.Cells.{word_void, word_top}

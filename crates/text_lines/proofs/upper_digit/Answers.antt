@@ -1,5 +1,4 @@
 -- `text_lines::upper_digit`: each branch is its case of `upper_digit`.
-use borrow.Author.Rules.{rules}
 use borrow.Author.Tests.{lt-ltb, le-ltb}
 use Rattle.grid.specs.Frames.{upper_digit}
 use Rattle.text_lines.proofs.upper_digit.Goals as goal

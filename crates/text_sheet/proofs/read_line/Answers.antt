@@ -1,11 +1,11 @@
 -- `text_sheet::read_line`: q numbers of the line are stored.
 use mathlib.Core.Path.{◌≡◌, refl, ap, ◌∙◌}
-use Prim.Native.Nat.{◌-◌, ◌≤◌}
+use Prim.Native.Nat.{◌-◌}
 use native.Mathlib.Omega.{arith}
 use mir.Facts.{to_z-of_z}
 use borrow.Author.Rules.{sfits_of}
 use Rattle.grid.specs.Frames.{from_twos}
-use Rattle.text_sheet.proofs.Cells.{NumbersTo, numbers_none, numbers_more, numbers_end}
+use Rattle.text_sheet.proofs.Cells.{numbers_none, numbers_more, numbers_end}
 use Rattle.text_sheet.proofs.read_line.Reads as reads
 use Rattle.text_sheet.proofs.read_line.Lts as lts
 use Rattle.cursor.proofs.Cursor.number.Reads as number-reads
@@ -39,8 +39,7 @@ loop-q-smaller c = omega arith
 
 pub loop-q-preserved : goal.loop-q-preserved
 loop-q-preserved c =
-    let number = c.number-number.ensures in
-    (
+    let number = c.number-number.ensures in (
       omega arith,
       numbers_more _ _ _ _ c.loop-q.invariant.1 (to_z-of_z (sfits_of c.elevation_of.type-inv) ∙ c.elevation_of.ensures ∙ ap from_twos number.value)
           number.next,

@@ -1,11 +1,6 @@
 -- `text_sheet::read_line`: q numbers of the line are stored.
-use mathlib.Core.Path.{◌≡◌, refl, ap, ◌∙◌}
 use Prim.Native.Nat.{◌-◌, ◌≤◌}
-use native.Mathlib.Omega.{arith}
-use mir.Facts.{to_z-of_z}
-use borrow.Author.Rules.{sfits_of}
-use Rattle.grid.specs.Frames.{from_twos}
-use Rattle.text_sheet.proofs.Cells.{NumbersTo, numbers_none, numbers_more, numbers_end}
+use Rattle.text_sheet.proofs.Cells.{NumbersTo}
 use Rattle.text_sheet.proofs.read_line.Reads as reads
 use Rattle.text_sheet.proofs.read_line.Lts as lts
 use Rattle.cursor.proofs.Cursor.number.Reads as number-reads

@@ -1,9 +1,6 @@
 -- `text_sheet::read_lines`: r lines of the sheet are stored.
-use mathlib.Core.Path.{◌≡◌}
-use Prim.Native.Nat.{◌+◌, ◌-◌, ◌*◌, ◌≤◌}
-use native.Mathlib.Omega.{arith}
-use Rattle.text_laws.proofs.Runs.{one_more_fits}
-use Rattle.text_sheet.proofs.Cells.{LinesTo, lines_none, lines_more, lines_end}
+use Prim.Native.Nat.{◌-◌, ◌≤◌}
+use Rattle.text_sheet.proofs.Cells.{LinesTo}
 use Rattle.text_sheet.proofs.read_lines.Reads as reads
 use Rattle.text_sheet.proofs.read_lines.Lts as lts
 use Rattle.text_sheet.proofs.read_line.Reads as read-line-reads

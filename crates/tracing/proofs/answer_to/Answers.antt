@@ -1,6 +1,5 @@
 -- One case for each status.
 use Rattle.tracing.proofs.Traces.{found_finished, found_waiting, found_none}
-use borrow.Author.Rules.{rules}
 use Rattle.tracing.proofs.answer_to.Goals as goal
 
 pub returns-then-crews-k-eq2 : goal.returns-then-crews-k-eq2

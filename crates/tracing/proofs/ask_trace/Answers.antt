@@ -1,10 +1,7 @@
 -- Each no is the answer of its question; after the last yes there is none.
 use mathlib.Core.Path.{sym, ◌∙◌}
 use Rattle.grid.specs.Checks.{accepted}
-use Rattle.grid_laws.proofs.Tests.{not_is_true, not_is_false}
 use Rattle.tracing.proofs.Traces.{answer_21, answer_22, answer_23, answer_yes}
-use borrow.Author.Rules.{rules}
-use Rattle.std.proofs.lemmas.Bool.{not_from_false, not_from_true}
 use Rattle.tracing.proofs.ask_trace.Goals as goal
 
 pub returns-then-crew-gt31 : goal.returns-then-crew-gt31

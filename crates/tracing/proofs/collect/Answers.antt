@@ -1,6 +1,5 @@
 -- A crew that is none is refused; of any other the answer is given, and a finished trace freed.
 use Rattle.tracing.proofs.Traces.{no_crew, no_crew_freed}
-use borrow.Author.Rules.{rules}
 use Rattle.tracing.proofs.collect.Goals as goal
 
 pub returns-then-crew-gt31 : goal.returns-then-crew-gt31

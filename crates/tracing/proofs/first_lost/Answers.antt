@@ -1,10 +1,9 @@
 -- No crew before the present one is lost.
 use mathlib.Core.Path.{sym, ◌∙◌}
-use Prim.Native.Nat.{◌-◌, ◌≤◌}
+use Prim.Native.Nat.{◌-◌}
 use native.Mathlib.Omega.{arith}
 use borrow.Author.Count.{below_more}
-use Rattle.tracing.proofs.Traces.{NoneLost, lost_here, lost_nowhere}
-use borrow.Author.Rules.{rules}
+use Rattle.tracing.proofs.Traces.{lost_here, lost_nowhere}
 use Rattle.tracing.proofs.first_lost.Goals as goal
 
 pub loop-k-init : goal.loop-k-init

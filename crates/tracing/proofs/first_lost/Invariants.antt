@@ -1,10 +1,6 @@
 -- No crew before the present one is lost.
-use mathlib.Core.Path.{sym, ◌∙◌}
 use Prim.Native.Nat.{◌-◌, ◌≤◌}
-use native.Mathlib.Omega.{arith}
-use borrow.Author.Count.{below_more}
-use Rattle.tracing.proofs.Traces.{NoneLost, lost_here, lost_nowhere}
-use borrow.Author.Rules.{rules}
+use Rattle.tracing.proofs.Traces.{NoneLost}
 use Rattle.tracing.proofs.first_lost.Given as goal
 
 abbrev pub invariant-loop-k : goal.invariant-loop-k

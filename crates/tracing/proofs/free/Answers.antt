@@ -1,6 +1,5 @@
 -- A finished trace is freed, and no other.
 use Rattle.tracing.proofs.Traces.{not_freed, is_freed}
-use borrow.Author.Rules.{rules}
 use Rattle.tracing.proofs.free.Goals as goal
 
 pub returns-then-crews-k-ne2 : goal.returns-then-crews-k-ne2

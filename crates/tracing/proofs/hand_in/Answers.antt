@@ -5,7 +5,6 @@ use Rattle.grid.specs.Crews.{handed_in}
 use Rattle.grid_laws.proofs.Tests.{cond_true}
 use Rattle.checks.proofs.Gate.{kept}
 use Rattle.tracing.proofs.Promise.{refused_hand_in, on_sheet, answered_hand_in, crew_small}
-use borrow.Author.Rules.{rules}
 use Rattle.tracing.proofs.hand_in.Goals as goal
 
 pub returns-then-answer-ne0 : goal.returns-then-answer-ne0

@@ -1,6 +1,5 @@
 -- On its way, or finished.
 use Rattle.tracing.proofs.Traces.{traced_on_way, traced_else}
-use borrow.Author.Rules.{rules}
 use Rattle.tracing.proofs.has_trace.Goals as goal
 
 pub returns-then-crews-k-eq1 : goal.returns-then-crews-k-eq1

@@ -1,6 +1,5 @@
 -- A trace on its way is lost where its cell has no code.
 use Rattle.tracing.proofs.Traces.{lost_idle, lost_on_way}
-use borrow.Author.Rules.{rules}
 use Rattle.tracing.proofs.is_lost.Goals as goal
 
 pub returns-then-crews-k-ne1 : goal.returns-then-crews-k-ne1

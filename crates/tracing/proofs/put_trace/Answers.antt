@@ -1,6 +1,5 @@
 -- The two stores of the definition.
 use Rattle.tracing.proofs.Traces.{stored}
-use borrow.Author.Rules.{rules}
 use Rattle.tracing.proofs.put_trace.Goals as goal
 
 pub returns : goal.returns

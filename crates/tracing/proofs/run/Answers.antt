@@ -1,6 +1,5 @@
 -- The first no stands, and beside it the state; after the last yes every trace stands on a code, and the turns are taken.
 use Rattle.tracing.proofs.Promise.{refused_run, on_sheet, lost_run, standing, answered_run}
-use borrow.Author.Rules.{rules}
 use Rattle.tracing.proofs.run.Goals as goal
 
 pub returns-then-answer-ne0 : goal.returns-then-answer-ne0

@@ -1,6 +1,5 @@
 -- The low 32 bits of the crew's second word.
 use mathlib.Core.Path.{refl}
-use borrow.Author.Rules.{rules}
 use Rattle.turning.proofs.cell_of.Goals as goal
 
 pub returns : goal.returns

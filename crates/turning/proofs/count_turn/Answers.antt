@@ -3,7 +3,6 @@ use mathlib.Core.Path.{ap}
 use Prim.Native.Nat.{ℕ}
 use lib.ListN.{set}
 use Rattle.grid.specs.Crews.{counted}
-use borrow.Author.Rules.{rules}
 use Rattle.turning.proofs.count_turn.Goals as goal
 
 pub returns : goal.returns

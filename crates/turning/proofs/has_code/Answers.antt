@@ -1,5 +1,4 @@
 -- Off the list there is no code; on it a code is one of the eight, or 0.
-use borrow.Author.Rules.{rules}
 use Rattle.turning.proofs.Stepping.{off_sheet, code_above}
 use Rattle.turning.proofs.has_code.Goals as goal
 

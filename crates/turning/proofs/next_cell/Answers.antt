@@ -4,7 +4,6 @@ use native.Mathlib.Omega.{arith}
 use Rattle.grid.specs.Sheet.{neighbour}
 use Rattle.route_laws.proofs.Receivers.{code_on}
 use Rattle.turning.proofs.Stepping.{position_small, receiver_is}
-use borrow.Author.Rules.{rules}
 use Rattle.turning.proofs.next_cell.Goals as goal
 
 pub bounds-codes-cell : goal.bounds-codes-cell

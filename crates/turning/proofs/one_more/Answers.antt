@@ -1,6 +1,5 @@
 -- One more is at most the largest number, unless it stands there already.
 use native.Mathlib.Omega.{arith}
-use borrow.Author.Rules.{rules}
 use Rattle.turning.proofs.one_more.Goals as goal
 
 pub returns-then-x-eq18446744073709551615 : goal.returns-then-x-eq18446744073709551615

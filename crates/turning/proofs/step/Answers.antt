@@ -2,10 +2,7 @@
 use mathlib.Core.Path.{◌∙◌, ap, sym}
 use Rattle.grid.specs.Routes.{has_code, receiver}
 use Rattle.grid.specs.Crews.{counted}
-use Rattle.grid_laws.proofs.Tests.{not_is_true, not_is_false}
 use Rattle.turning.proofs.Stepping.{ended, moved_on}
-use borrow.Author.Rules.{rules}
-use Rattle.std.proofs.lemmas.Bool.{not_from_false, not_from_true}
 use Rattle.turning.proofs.step.Goals as goal
 
 pub next_cell-next-requires : goal.next_cell-next-requires

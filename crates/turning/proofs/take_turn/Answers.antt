@@ -1,6 +1,5 @@
 -- The turn, and then whose is next.
 use Rattle.turning.proofs.Stepping.{turned}
-use borrow.Author.Rules.{rules}
 use Rattle.turning.proofs.take_turn.Goals as goal
 
 pub returns : goal.returns

@@ -7,7 +7,6 @@ use Rattle.grid.specs.Crews.{turns}
 use Rattle.crew_laws.specs.Standing.{Standing}
 use Rattle.crew_laws.proofs.Keeps.{still_standing}
 use Rattle.turning.proofs.Stepping.{no_turns, one_turn}
-use borrow.Author.Rules.{rules}
 use Rattle.turning.proofs.take_turns.Goals as goal
 
 pub loop-i-init : goal.loop-i-init

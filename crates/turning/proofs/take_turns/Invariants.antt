@@ -1,13 +1,8 @@
 -- i turns are taken, and every trace on its way stands on a cell with a code.
-use mathlib.Core.Path.{◌≡◌, ◌∙◌, ap, sym, subst}
-use Prim.Native.Nat.{ℕ, ◌-◌, ◌≤◌}
-use native.Mathlib.Omega.{arith}
-use lib.ListN.{length}
+use mathlib.Core.Path.{◌≡◌}
+use Prim.Native.Nat.{◌-◌, ◌≤◌}
 use Rattle.grid.specs.Crews.{turns}
 use Rattle.crew_laws.specs.Standing.{Standing}
-use Rattle.crew_laws.proofs.Keeps.{still_standing}
-use Rattle.turning.proofs.Stepping.{no_turns, one_turn}
-use borrow.Author.Rules.{rules}
 use Rattle.turning.proofs.take_turns.Given as goal
 
 abbrev pub invariant-loop-i : goal.invariant-loop-i

@@ -1,7 +1,6 @@
 -- A trace on its way takes a step.
 use mathlib.Core.Path.{◌∙◌}
 use Rattle.turning.proofs.Stepping.{idle, busy}
-use borrow.Author.Rules.{rules}
 use Rattle.turning.proofs.turn_of.Goals as goal
 
 pub returns-then-crews-k-ne1 : goal.returns-then-crews-k-ne1

@@ -1,11 +1,6 @@
 -- The walk down: its steps so far lead from the start to the present cell. The measure is what is left of n steps.
-use Prim.Native.Nat.{ℕ, ◌≤◌, ◌<◌, ◌+◌, ◌-◌}
-use mathlib.Core.Path.{◌≡◌, refl}
-use native.Mathlib.Omega.{arith}
-use borrow.Author.Rules.{rules}
-use lib.ListN.{get_or}
+use Prim.Native.Nat.{◌≤◌, ◌<◌, ◌+◌, ◌-◌}
 use Rattle.route_laws.specs.Walking.{Steps}
-use Rattle.route_laws.proofs.Walking.{step_on, stop_met, stop_end, stop_far}
 use Rattle.walk.proofs.descend.Given as goal
 
 abbrev pub invariant-loop-steps : goal.invariant-loop-steps

@@ -4,7 +4,6 @@ use mathlib.Core.Path.{◌≡◌, refl}
 use mathlib.Core.Logic.{inl, inr}
 use native.Mathlib.Omega.{arith}
 use lib.ListN.{get_or}
-use borrow.Author.Rules.{rules}
 use Rattle.route_laws.proofs.Walking.{step_on, stop_met, stop_end}
 use Rattle.walk.proofs.lift.Goals as goal
 

@@ -1,7 +1,5 @@
 -- What stands is right at each cell, whichever were lifted. The measure is what is left of the cells.
-use Prim.Native.Nat.{◌≤◌}
 use native.Mathlib.Omega.{arith}
-use Rattle.route_laws.specs.Walking.{WalkedTo}
 use Rattle.route_laws.proofs.Walking.{walked_none, lifted}
 use Rattle.walk.proofs.lift_all.Goals as goal
 

@@ -1,7 +1,6 @@
 -- Writing down: each place written lay on the walk and had no result. The measure is the number of places that have none.
 use native.Mathlib.Omega.{arith}
-use Rattle.route_laws.specs.Walking.{Settling}
-use Rattle.route_laws.proofs.Walking.{free_places, fewer_free, settling_none, settling_more, settled_off, settled_met}
+use Rattle.route_laws.proofs.Walking.{fewer_free, settling_none, settling_more, settled_off, settled_met}
 use Rattle.walk.proofs.settle.Goals as goal
 
 pub loop-cell-init : goal.loop-cell-init

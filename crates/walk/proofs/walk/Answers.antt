@@ -1,5 +1,4 @@
 -- What one step finds, and then the starts.
-use borrow.Author.Rules.{rules}
 use Rattle.walk.proofs.walk.Goals as goal
 
 pub returns : goal.returns

@@ -3,7 +3,6 @@ use Prim.Native.Nat.{ℕ, ◌^◌}
 use mathlib.Core.Path.{refl, subst}
 use mathlib.Core.Logic.{inl, inr}
 use native.Mathlib.Omega.{arith}
-use borrow.Author.Rules.{rules}
 use Rattle.grid_laws.proofs.Below.{positive}
 use Rattle.route_laws.specs.Walking.{Descent}
 use Rattle.route_laws.proofs.Walking.{found_above, found_small}
@@ -16,13 +15,12 @@ pub returns-then-tail-start : goal.returns-then-tail-start
 returns-then-tail-start c = inl (refl, c.if-tail-start.true)
 
 pub returns-then-found-eq0 : goal.returns-then-found-eq0
-returns-then-found-eq0 c =
-    (
-      refl,
-      c.if-tail-start.false,
-      subst (λ (v : ℕ). Descent c.args.n c.args.tail.now c.args.start v)
-          c.if-found-eq0.true c.descend-found.ensures,
-    )
+returns-then-found-eq0 c = (
+  refl,
+  c.if-tail-start.false,
+  subst (λ (v : ℕ). Descent c.args.n c.args.tail.now c.args.start v)
+      c.if-found-eq0.true c.descend-found.ensures,
+)
 
 pub overflow_cast-found : goal.overflow_cast-found
 overflow_cast-found c =

@@ -1,15 +1,10 @@
 -- All starts: whatever receivers it began with, the starts below the present one are walked. The measure is what is left of the starts.
 use Prim.Native.Nat.{ℕ, ◌≤◌, ◌-◌}
-use mathlib.Core.Path.{◌≡◌, refl, sym, ◌∙◌, subst}
-use mathlib.Core.Bool.{Bool}
+use mathlib.Core.Path.{◌≡◌}
 use mathlib.Core.List.{List}
-use native.Mathlib.Nat.{le_antisymm}
-use native.Mathlib.Omega.{arith}
 use lib.ListN.{length, take}
-use borrow.Author.Tests.{not-true, not-false}
 use Rattle.route_laws.specs.Receivers.{Marks}
-use Rattle.route_laws.specs.Walking.{Stepped, WalkedTo, Walked}
-use Rattle.route_laws.proofs.Walking.{stepped, walked_endless, walked_all}
+use Rattle.route_laws.specs.Walking.{WalkedTo}
 use Rattle.walk.proofs.walk_on.Given as goal
 
 abbrev pub invariant-loop-start : goal.invariant-loop-start

@@ -1,5 +1,4 @@
 -- Where there is no start the place stays.
-use borrow.Author.Rules.{rules}
 use Rattle.watershed_walk.proofs.Cutting.{cut_none, cut_one}
 use Rattle.watershed_walk.proofs.cut_at.Goals as goal
 

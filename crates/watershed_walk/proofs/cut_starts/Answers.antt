@@ -1,5 +1,5 @@
 -- The places passed are cut.
-use Prim.Native.Nat.{ℕ, ◌+◌, ◌-◌, ◌≤◌}
+use Prim.Native.Nat.{ℕ, ◌+◌, ◌-◌}
 use mathlib.Core.Path.{◌≡◌, sym, subst}
 use native.Mathlib.Omega.{arith}
 use mathlib.Core.List.{List}
@@ -27,8 +27,7 @@ loop-cell-smaller c = let t = c.loop-cell-test.true in omega arith
 
 pub loop-cell-preserved : goal.loop-cell-preserved
 loop-cell-preserved c =
-    let t = c.loop-cell-test.true in
-    (
+    let t = c.loop-cell-test.true in (
       omega arith,
       subst (λ (x : List ℕ). CutTo c.args.n c.args.starts.now (c.loop-cell.cell + 1) c.args.tail.now x)
           (sym c.cut_at.ensures)

@@ -1,9 +1,6 @@
 -- The places passed are cut.
-use Prim.Native.Nat.{ℕ, ◌+◌, ◌-◌, ◌≤◌}
-use mathlib.Core.Path.{◌≡◌, sym, subst}
-use native.Mathlib.Omega.{arith}
-use mathlib.Core.List.{List}
-use Rattle.watershed_walk.proofs.Cutting.{CutTo, cut_to_none, cut_to_more, cut_all}
+use Prim.Native.Nat.{◌-◌, ◌≤◌}
+use Rattle.watershed_walk.proofs.Cutting.{CutTo}
 use Rattle.watershed_walk.proofs.cut_starts.Given as goal
 
 abbrev pub invariant-loop-cell : goal.invariant-loop-cell

@@ -1,11 +1,8 @@
 -- No start before the present cell is stray.
-use Prim.Native.Nat.{ℕ, ◌-◌, ◌≤◌, ◌<◌}
-use mathlib.Core.Path.{◌≡◌, sym, ◌∙◌}
+use Prim.Native.Nat.{◌-◌}
+use mathlib.Core.Path.{sym, ◌∙◌}
 use native.Mathlib.Omega.{arith}
-use lib.ListN.{length, get_or}
-use borrow.Author.Rules.{rules}
-use mathlib.Core.Bool.{false, ◌&&◌}
-use lib.Dec.{eqb, ltb}
+use mathlib.Core.Bool.{false}
 use borrow.Author.Count.{below_more}
 use Rattle.watershed_walk.proofs.Asking.{first_stray_is}
 use Rattle.watershed_walk.proofs.first_bad_start.Goals as goal

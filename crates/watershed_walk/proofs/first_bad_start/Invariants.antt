@@ -1,13 +1,9 @@
 -- No start before the present cell is stray.
 use Prim.Native.Nat.{ℕ, ◌-◌, ◌≤◌, ◌<◌}
-use mathlib.Core.Path.{◌≡◌, sym, ◌∙◌}
-use native.Mathlib.Omega.{arith}
+use mathlib.Core.Path.{◌≡◌}
 use lib.ListN.{length, get_or}
-use borrow.Author.Rules.{rules}
 use mathlib.Core.Bool.{false, ◌&&◌}
 use lib.Dec.{eqb, ltb}
-use borrow.Author.Count.{below_more}
-use Rattle.watershed_walk.proofs.Asking.{first_stray_is}
 use Rattle.watershed_walk.proofs.first_bad_start.Given as goal
 
 abbrev pub invariant-loop-c : goal.invariant-loop-c

@@ -1,11 +1,11 @@
 -- The watersheds of the cells passed stand.
-use Prim.Native.Nat.{◌+◌, ◌-◌, ◌≤◌}
+use Prim.Native.Nat.{◌-◌}
 use mathlib.Core.Path.{◌≡◌, sym, ◌∙◌}
 use native.Mathlib.Omega.{arith}
-use lib.ListN.{length, get_or, length-set}
+use lib.ListN.{length-set}
 use Rattle.grid_laws.proofs.Below.{is_table}
 use Rattle.route_laws.specs.Starts.{start_of}
-use Rattle.labelling.proofs.Labelled.{FilledTo, filled_more}
+use Rattle.labelling.proofs.Labelled.{filled_more}
 use Rattle.watershed_walk.proofs.read_watersheds.Goals as goal
 
 pub loop-c-init : goal.loop-c-init

@@ -1,11 +1,9 @@
 -- The watersheds of the cells passed stand.
 use Prim.Native.Nat.{◌+◌, ◌-◌, ◌≤◌}
-use mathlib.Core.Path.{◌≡◌, sym, ◌∙◌}
-use native.Mathlib.Omega.{arith}
-use lib.ListN.{length, get_or, length-set}
-use Rattle.grid_laws.proofs.Below.{is_table}
+use mathlib.Core.Path.{◌≡◌}
+use lib.ListN.{length, get_or}
 use Rattle.route_laws.specs.Starts.{start_of}
-use Rattle.labelling.proofs.Labelled.{FilledTo, filled_more}
+use Rattle.labelling.proofs.Labelled.{FilledTo}
 use Rattle.watershed_walk.proofs.read_watersheds.Given as goal
 
 abbrev pub invariant-loop-c : goal.invariant-loop-c

@@ -1,5 +1,4 @@
 -- The answer to 11 and 12 stands beside a no; after a yes 13 and 24 are answered.
-use borrow.Author.Rules.{rules}
 use Rattle.watershed_walk.proofs.Asking.{answer_no, answer_after}
 use Rattle.watershed_walk.proofs.routes_check.Goals as goal
 

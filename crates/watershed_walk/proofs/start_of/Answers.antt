@@ -1,6 +1,5 @@
 -- 0 is no start; else the cell before the mark.
 use Prim.Native.Nat.{◌+◌, ◌-◌}
-use borrow.Author.Rules.{rules}
 use Rattle.watershed_walk.proofs.Cutting.{start_zero, start_at}
 use Rattle.watershed_walk.proofs.start_of.Goals as goal
 

@@ -1,5 +1,4 @@
 -- Each no is the answer of its question; after the last yes there is none.
-use borrow.Author.Rules.{rules}
 use Rattle.watershed_walk.proofs.Asking.{answer_13, answer_24, answer_yes}
 use Rattle.watershed_walk.proofs.starts_check.Goals as goal
 

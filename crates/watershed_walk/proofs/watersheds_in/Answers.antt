@@ -1,7 +1,6 @@
 -- Receivers, cut at starts, walked, and read: the law of watersheds.
 use mathlib.Core.Path.{◌∙◌}
 use native.Mathlib.Omega.{arith}
-use borrow.Author.Rules.{rules}
 use Rattle.watershed_walk.proofs.Cutting.{marks_cut, raised, watersheds_read}
 use Rattle.watershed_walk.proofs.watersheds_in.Goals as goal
 
@@ -27,7 +26,7 @@ read_watersheds-requires c =
       n_bound = omega arith;
       starts_len = c.requires.starts_len;
       n_in_bounds = let a = c.receivers_from.auto.tail in let b = c.cut_starts.auto.tail in let d = c.walk.auto.tail in let h = c.requires.g_in_bounds in
-              omega arith;
+          omega arith;
       watersheds_len = c.requires.watersheds_len;
       by_index = r;
     }

@@ -1,7 +1,6 @@
 -- Beside a no the result is as at entry; a yes to the three questions is what the watersheds ask for.
 use mathlib.Core.Path.{sym, ◌∙◌}
 use native.Mathlib.Omega.{arith}
-use borrow.Author.Rules.{rules}
 use borrow.Author.Tests.{eq-eqb, ne_eqb}
 use Rattle.grid.specs.Routes.{watersheds}
 use Rattle.grid_laws.proofs.Tests.{cond_true, cond_false}

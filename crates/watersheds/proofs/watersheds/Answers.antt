@@ -1,6 +1,5 @@
 -- The answer of the first checks stands beside a no; after a yes the sizes are what the inner function asks for, and its answer is the
 -- call's.
-use borrow.Author.Rules.{rules}
 use Rattle.watersheds.proofs.Promise.{refused_promise, sizes, answered_promise}
 use Rattle.watersheds.proofs.watersheds.Goals as goal
 

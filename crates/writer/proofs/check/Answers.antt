@@ -1,5 +1,4 @@
 -- `writer::check`: 4, and what is asked after it.
-use borrow.Author.Rules.{rules}
 use Rattle.checks.proofs.Asked.{says_no, says_yes}
 use Rattle.writer.proofs.Promise.{too_many, few_enough}
 use Rattle.std.proofs.lemmas.Bool.{not_from_false, not_from_true}

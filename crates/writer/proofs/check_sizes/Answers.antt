@@ -1,5 +1,4 @@
 -- `writer::check_sizes`: each return is a case of what is asked.
-use borrow.Author.Rules.{rules}
 use Rattle.writer.proofs.Promise.{bad_sizes, fits, too_short, room_enough}
 use Rattle.writer.proofs.check_sizes.Goals as goal
 

@@ -1,6 +1,5 @@
 -- `writer::few_cells`: with no row there is no cell; else the quotient tells.
 use mathlib.Core.Path.{sym}
-use borrow.Author.Rules.{rules}
 use Rattle.writer.proofs.Promise.{no_rows, by_quotient}
 use Rattle.writer.proofs.few_cells.Goals as goal
 

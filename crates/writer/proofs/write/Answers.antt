@@ -1,6 +1,5 @@
 -- `writer::write`: beside a no, and after the last yes.
 use native.Mathlib.Omega.{arith}
-use borrow.Author.Rules.{rules}
 use Rattle.writer.proofs.Promise.{refused, sheet_fits, count_small, written}
 use Rattle.writer.proofs.write.Goals as goal
 

@@ -1,4 +1,3 @@
-use borrow.Author.Rules.{rules}
 use Rattle.cells.proofs.Codes.{code_byte}
 use Rattle.cells.proofs.Direction.code.Goals as goal
 

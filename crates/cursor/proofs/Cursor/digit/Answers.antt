@@ -1,7 +1,6 @@
 -- `cursor::Cursor::digit`: the value of the byte that is read.
 use mathlib.Core.Path.{◌∙◌, ap}
 use Rattle.grid.specs.Frames.{hex_value}
-use borrow.Author.Rules.{rules}
 use Rattle.cursor.proofs.Cursor.digit.Goals as goal
 
 pub returns : goal.returns

@@ -1,6 +1,5 @@
 -- `cursor::Cursor::number`: each digit is read where the one before ends.
 use Rattle.cursor.proofs.Numbers.{four_digits}
-use borrow.Author.Rules.{rules}
 use Rattle.cursor.proofs.Cursor.number.Reads as reads
 use Rattle.cursor.proofs.Cursor.number.Lts as lts
 use Rattle.cursor.proofs.Cursor.digit.Reads as digit-reads
