@@ -1,4 +1,5 @@
 -- 5 to 7, and then 8.
+use mathlib.Core.List.{[]}
 use mathlib.Core.Path.{◌∙◌}
 use native.Mathlib.Omega.{arith}
 use Rattle.grid.specs.Checks.{accepted, refusal}
