@@ -6,8 +6,9 @@ use lib.ListN.{get_or}
 use Rattle.grid.specs.Sheet.{size, neighbour}
 use Rattle.cells.proofs.Steps.{inner_offset}
 use Rattle.cells.proofs.beside.Goals as goal
+use Rattle.cells.proofs.beside.Goals.{After-result-1}
 
-found : (c : goal.After-result-1) →
+found : (c : After-result-1) →
     let a = c.args in
     (neighbour a.g a.cell a.p + (a.g.cols + 1) ≡ a.cell + get_or a.offsets.now a.p 0)
     × ((neighbour a.g a.cell a.p < size a.g) × (a.cell + get_or a.offsets.now a.p 0 + (a.g.cols + 1) < 67108864))

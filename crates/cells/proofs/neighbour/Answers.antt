@@ -7,8 +7,9 @@ use Rattle.grid_laws.proofs.Neighbours.{cols_positive}
 use Rattle.cells.specs.Steps.{right_of}
 use Rattle.cells.proofs.Steps.{Placed, row_below, col_below, rows_small, cols_small, down_3, right_3, off_is, in_is, in_small}
 use Rattle.cells.proofs.neighbour.Goals as goal
+use Rattle.cells.proofs.neighbour.Goals.{After-col_step, After-row_step}
 
-early : (c : goal.After-row_step) →
+early : (c : After-row_step) →
     Placed c.args.g c.args.cell (c.args.cell / c.args.g.cols) (c.args.cell % c.args.g.cols)
     c.args.p c.row_step.result (right_of c.args.p)
 early c =
@@ -21,7 +22,7 @@ early c =
       steps_right = refl;
     }
 
-placed : (c : goal.After-col_step) →
+placed : (c : After-col_step) →
     Placed c.args.g c.args.cell (c.args.cell / c.args.g.cols) (c.args.cell % c.args.g.cols)
     c.args.p c.row_step.result c.col_step.result
 placed c =

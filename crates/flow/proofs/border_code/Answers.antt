@@ -5,6 +5,7 @@ use lib.ListN.{get_or}
 use borrow.Author.Rules.{sfits_of}
 use Rattle.flow.proofs.Flats.{byte_code, high_key, high_code}
 use Rattle.flow.proofs.border_code.Goals as goal
+use Rattle.flow.proofs.border_code.Goals.{Else-word-lt257}
 
 pub returns-then-word-lt257 : goal.returns-then-word-lt257
 returns-then-word-lt257 c =
@@ -13,7 +14,7 @@ returns-then-word-lt257 c =
     c.requires.nonzero c.if-word-lt257.true
 
 -- a word that is neither a code nor a void's has a level above 0
-high : (c : goal.Else-word-lt257) → 257 ≤ get_or c.args.work.now c.args.cell 0
+high : (c : Else-word-lt257) → 257 ≤ get_or c.args.work.now c.args.cell 0
 high c = let past = c.if-word-lt257.false in omega arith
 
 pub lowest_below-low-requires : goal.lowest_below-low-requires

@@ -6,9 +6,10 @@ use Rattle.grid.specs.Sheet.{size}
 use Rattle.cells.proofs.Rows.{rows_small, row_on, row_whole}
 use Rattle.flow.proofs.Flats.{codes_none}
 use Rattle.flow.proofs.code_rows.Goals as goal
+use Rattle.flow.proofs.code_rows.Goals.{At-loop-row, Start}
 
 -- two rows lie on the sheet, and a third
-three : (s : goal.Start) → s.args.g.cols + s.args.g.cols + s.args.g.cols ≤ size s.args.g
+three : (s : Start) → s.args.g.cols + s.args.g.cols + s.args.g.cols ≤ size s.args.g
 three s =
     let tall = s.requires.le_rows.0 in
     let one : 1 * s.args.g.cols + s.args.g.cols + s.args.g.cols ≤ size s.args.g = row_on s.args.g 1 (omega arith) in
@@ -40,7 +41,7 @@ loop-row-init c =
     (omega arith, omega arith, refl, λ i h. c.border_codes.ensures i (omega arith))
 
 -- rows are few
-few : (c : goal.At-loop-row) → c.loop-row.row + 1 < 16777216
+few : (c : At-loop-row) → c.loop-row.row + 1 < 16777216
 few c =
     let small = c.requires.g_bound in
     let wide = c.requires.le_rows.1 in
@@ -53,7 +54,7 @@ overflow_add-row c =
     omega arith
 
 -- the codes keep their number
-kept : (c : goal.At-loop-row) → length c.loop-row.codes ≡ length c.args.codes.now
+kept : (c : At-loop-row) → length c.loop-row.codes ≡ length c.args.codes.now
 kept c = c.loop-row.invariant.2 ∙ c.border_codes.auto.codes
 
 pub code_row-requires : goal.code_row-requires
@@ -89,7 +90,7 @@ loop-row-preserved c =
     (omega arith, omega arith, same ∙ c.loop-row.invariant.2, c.code_row.ensures)
 
 -- the last row ends the sheet
-last_row : (c : goal.At-loop-row) →
+last_row : (c : At-loop-row) →
     c.loop-row.row * c.args.g.cols + c.args.g.cols ≤ size c.args.g
 last_row c = row_whole c.args.g c.loop-row.row c.loop-row.invariant.1
 

@@ -5,6 +5,7 @@ use lib.ListN.{length, length-set}
 use Rattle.flow_laws.specs.Words.{first_word}
 use Rattle.flow.proofs.Seeds.{stored_more, marked_set}
 use Rattle.flow.proofs.edge_words.Goals as goal
+use Rattle.flow.proofs.edge_words.Goals.{After-edge_word}
 
 pub loop-cell-init : goal.loop-cell-init
 loop-cell-init c =
@@ -27,7 +28,7 @@ edge_word-requires c =
     }
 
 -- the cell's place is in the work buffer, before the marks
-within : (c : goal.After-edge_word) →
+within : (c : After-edge_word) →
     (c.loop-cell.cell < length c.loop-cell.work)
     × (c.loop-cell.cell < c.args.base)
 within c =

@@ -7,6 +7,7 @@ use Rattle.grid.specs.Directions.{direction_at}
 use Rattle.flow_laws.specs.Words.{levels_in}
 use Rattle.flow.proofs.Seeds.{stored_more}
 use Rattle.flow.proofs.inner_codes.Goals as goal
+use Rattle.flow.proofs.inner_codes.Goals.{After-inner_code}
 
 pub loop-cell-init : goal.loop-cell-init
 loop-cell-init c = (omega arith, c.requires.from_le_to.0, refl, c.requires.codes_to)
@@ -30,7 +31,7 @@ inner_code-requires c =
     }
 
 -- the cell's place is among the codes
-within : (c : goal.After-inner_code) → c.loop-cell.cell < length c.loop-cell.codes
+within : (c : After-inner_code) → c.loop-cell.cell < length c.loop-cell.codes
 within c =
     let long = c.requires.codes_len in
     let last = c.requires.from_le_to.1 in

@@ -5,9 +5,10 @@ use lib.ListN.{length}
 use Rattle.grid.specs.Sheet.{size}
 use Rattle.cells.proofs.Rows.{rows_small, row_on, row_whole}
 use Rattle.flow.proofs.seed_rows.Goals as goal
+use Rattle.flow.proofs.seed_rows.Goals.{At-loop-row, Start}
 
 -- two rows lie on the sheet, and a third
-three : (s : goal.Start) → s.args.g.cols + s.args.g.cols + s.args.g.cols ≤ size s.args.g
+three : (s : Start) → s.args.g.cols + s.args.g.cols + s.args.g.cols ≤ size s.args.g
 three s =
     let tall = s.requires.le_rows.0 in
     let one : 1 * s.args.g.cols + s.args.g.cols + s.args.g.cols ≤ size s.args.g = row_on s.args.g 1 (omega arith) in
@@ -36,7 +37,7 @@ loop-row-init c =
     (omega arith, omega arith, refl, λ i h. c.edge_words.ensures.words_to_2 i (omega arith), c.edge_words.ensures.marks_in_2)
 
 -- rows are few
-few : (c : goal.At-loop-row) → c.loop-row.row + 1 < 16777216
+few : (c : At-loop-row) → c.loop-row.row + 1 < 16777216
 few c =
     let small = c.requires.g_bound in
     let wide = c.requires.le_rows.1 in
@@ -49,7 +50,7 @@ overflow_add-row c =
     omega arith
 
 -- the work buffer keeps its length
-kept : (c : goal.At-loop-row) → length c.loop-row.work ≡ length c.args.work.now
+kept : (c : At-loop-row) → length c.loop-row.work ≡ length c.args.work.now
 kept c = c.loop-row.invariant.2 ∙ c.edge_words.auto.work
 
 pub seed_row-requires : goal.seed_row-requires
@@ -83,7 +84,7 @@ loop-row-preserved c =
     (omega arith, omega arith, same ∙ c.loop-row.invariant.2, c.seed_row.ensures.words_to_2, c.seed_row.ensures.marks_in_2)
 
 -- the last row ends the sheet
-last_row : (c : goal.At-loop-row) →
+last_row : (c : At-loop-row) →
     c.loop-row.row * c.args.g.cols + c.args.g.cols ≤ size c.args.g
 last_row c = row_whole c.args.g c.loop-row.row c.loop-row.invariant.1
 

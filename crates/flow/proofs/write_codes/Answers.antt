@@ -11,9 +11,10 @@ use Rattle.flow_laws.specs.Words.{levels_in}
 use Rattle.flow.specs.Coding.{CodesTo}
 use Rattle.flow.proofs.Flats.{codes_none}
 use Rattle.flow.proofs.write_codes.Goals as goal
+use Rattle.flow.proofs.write_codes.Goals.{Start}
 
 -- where every cell has its code, the codes are those of the sheet
-whole : (s : goal.Start) (codes : List ℕ) → length codes ≡ length s.args.codes.now →
+whole : (s : Start) (codes : List ℕ) → length codes ≡ length s.args.codes.now →
     let a = s.args in
     CodesTo a.g a.elevations.now a.work.now (size a.g) codes →
     codes ≡ table (size a.g) (direction_at a.g a.elevations.now (levels_in a.g a.work.now))

@@ -4,9 +4,10 @@ use native.Mathlib.Omega.{arith}
 use Rattle.grid.specs.Sheet.{size}
 use Rattle.flow_laws.proofs.Words.{searching_most}
 use Rattle.levels.proofs.empty_open.Goals as goal
+use Rattle.levels.proofs.empty_open.Goals.{At-loop-head}
 
 -- the queue is never longer than there are cells
-most : (a : goal.At-loop-head) → a.loop-head.end ≤ size a.args.g
+most : (a : At-loop-head) → a.loop-head.end ≤ size a.args.g
 most a =
     searching_most a.args.g a.args.elevations.now a.requires.elevations_len a.args.half a.loop-head.work a.loop-head.invariant.1
 

@@ -2,8 +2,9 @@ use native.Mathlib.Omega.{arith}
 use Rattle.flow_laws.specs.Words.{Joining}
 use Rattle.levels.proofs.Joined.{joining_none}
 use Rattle.levels.proofs.first_round.Goals as goal
+use Rattle.levels.proofs.first_round.Goals.{Start}
 
-joining : (s : goal.Start) → Joining s.args.g s.args.elevations.now s.args.half s.args.work.now 0 0
+joining : (s : Start) → Joining s.args.g s.args.elevations.now s.args.half s.args.work.now 0 0
 joining s = let a = s.args in joining_none a.g a.elevations.now a.half a.work.now s.requires.seeded
 
 pub border_run-requires : goal.border_run-requires

@@ -6,8 +6,9 @@ use Rattle.grid.specs.Sheet.{at}
 use Rattle.cells.proofs.Keys.{Known}
 use Rattle.levels.proofs.Keyed.{key_read, differs, agrees}
 use Rattle.levels.proofs.is_zero_at.Goals as goal
+use Rattle.levels.proofs.is_zero_at.Goals.{After-key-own}
 
-own : (c : goal.After-key-own) → Known c.key-own.result (at c.args.elevations.now c.args.m)
+own : (c : After-key-own) → Known c.key-own.result (at c.args.elevations.now c.args.m)
 own c =
     let fits = sfits_of c.key-arg-1.given in
     key_read c.args.elevations.now c.args.m c.key-own.result c.requires.m_in_bounds fits (c.key-own.ensures.value, (c.key-own.ensures.upper_bound, c.key-own.ensures.elevation))

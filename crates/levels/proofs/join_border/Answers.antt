@@ -7,9 +7,10 @@ use Rattle.cells.specs.Keys.{level_of}
 use Rattle.levels.proofs.Keyed.{key_read, data_known}
 use Rattle.levels.proofs.Joined.{joining_has, joining_data, joining_alone, joining_room, joining_next}
 use Rattle.levels.proofs.join_border.Goals as goal
+use Rattle.levels.proofs.join_border.Goals.{After-key-k}
 
 -- a cell without a word holds data, so its key is above 0
-own : (c : goal.After-key-k) → (at c.args.elevations.now c.args.cell ≡ level_of c.key-k.result) × (0 < c.key-k.result)
+own : (c : After-key-k) → (at c.args.elevations.now c.args.cell ≡ level_of c.key-k.result) × (0 < c.key-k.result)
 own c =
     let a = c.args in
     let len = c.requires.elevations_len in
@@ -28,7 +29,7 @@ returns-then-work-cell-ne0 c =
 
 pub zero_border-requires : goal.zero_border-requires
 zero_border-requires c =
-    let the_all = (c.requires.elevations_len, (c.requires.g_bound, (omega arith, (c.requires.cell_bound, own c.before)))) in
+    let the_all = (c.requires.elevations_len, (c.requires.g_bound, (omega arith, (c.requires.cell_bound, own c)))) in
     record {
       elevations_len = the_all.0;
       g_bound = the_all.1.0;

@@ -7,9 +7,10 @@ use Rattle.cells.specs.Keys.{level_of}
 use Rattle.levels.proofs.Keyed.{key_read, data_known}
 use Rattle.levels.proofs.Joined.{joining_has, joining_data, joining_alone, joining_room, joining_next}
 use Rattle.levels.proofs.join_inner.Goals as goal
+use Rattle.levels.proofs.join_inner.Goals.{After-key-k}
 
 -- a cell without a word holds data, so its key is above 0
-own : (c : goal.After-key-k) → (at c.args.elevations.now c.args.cell ≡ level_of c.key-k.result) × (0 < c.key-k.result)
+own : (c : After-key-k) → (at c.args.elevations.now c.args.cell ≡ level_of c.key-k.result) × (0 < c.key-k.result)
 own c =
     let a = c.args in
     let len = c.requires.elevations_len in
@@ -34,8 +35,8 @@ zero_inner-requires c =
       g_bound = c.requires.g_bound;
       g_in_bounds = omega arith;
       inner = inner;
-      cell_value = (own c.before).0;
-      k_nonzero = (own c.before).1;
+      cell_value = (own c).0;
+      k_nonzero = (own c).1;
       offsets = c.requires.offsets;
     }
 

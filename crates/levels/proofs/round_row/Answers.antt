@@ -4,9 +4,10 @@ use native.Mathlib.Omega.{arith}
 use Rattle.grid.specs.Sheet.{size}
 use Rattle.cells.proofs.Rows.{row_on, next_row, within_row}
 use Rattle.levels.proofs.round_row.Goals as goal
+use Rattle.levels.proofs.round_row.Goals.{Start}
 
 -- the row after this one lies on the sheet
-room : (s : goal.Start) → s.args.row * s.args.g.cols + s.args.g.cols + s.args.g.cols ≤ size s.args.g
+room : (s : Start) → s.args.row * s.args.g.cols + s.args.g.cols + s.args.g.cols ≤ size s.args.g
 room s = row_on s.args.g s.args.row s.requires.le_row.1
 
 pub overflow_mul-from : goal.overflow_mul-from

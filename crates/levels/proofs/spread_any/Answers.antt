@@ -7,8 +7,9 @@ use Rattle.grid.specs.Sheet.{size}
 use Rattle.grid_laws.proofs.Neighbours.{cols_positive}
 use Rattle.levels.proofs.Spreading.{x_on, spreading_room, spreading_more, spreading_end}
 use Rattle.levels.proofs.spread_any.Goals as goal
+use Rattle.levels.proofs.spread_any.Goals.{Start}
 
-on : (s : goal.Start) → s.args.cell < size s.args.g
+on : (s : Start) → s.args.cell < size s.args.g
 on s =
     let a = s.args in
     x_on a.g a.elevations.now s.requires.elevations_len a.half a.work.now a.head a.tail a.cell a.word 0 s.requires.spreading

@@ -3,12 +3,13 @@ use native.Mathlib.Omega.{arith}
 use lib.ListN.{get_or}
 use Rattle.levels.proofs.Spreading.{Reading, reading}
 use Rattle.levels.proofs.spread_closed.Goals as goal
+use Rattle.levels.proofs.spread_closed.Goals.{Start}
 
 -- the queue's first
-abbrev first : goal.Start → ℕ
+abbrev first : Start → ℕ
 first s = get_or s.args.work.now (s.args.half + s.args.head) 0
 
-read : (s : goal.Start) → Reading s.args.g s.args.elevations.now s.args.half s.args.work.now s.args.head
+read : (s : Start) → Reading s.args.g s.args.elevations.now s.args.half s.args.work.now s.args.head
     s.args.tail (first s)
 read s =
     let a = s.args in

@@ -10,12 +10,13 @@ use Rattle.grid.specs.Sheet.{is_data}
 use Rattle.outside.proofs.Seeds.{void_mark_is}
 use borrow.Author.Rules.{rules}
 use Rattle.outside.proofs.mark_voids.Goals as goal
+use Rattle.outside.proofs.mark_voids.Goals.{After-void_mark}
 
 pub loop-cell-init : goal.loop-cell-init
 loop-cell-init c = (omega arith, refl, λ i h. let z : ⊥ = omega arith in absurd z, λ i h. refl)
 
 -- the mark's place is in the work buffer
-within : (c : goal.After-void_mark) →
+within : (c : After-void_mark) →
     c.args.base + c.loop-cell.cell
     < length c.loop-cell.work
 within c =

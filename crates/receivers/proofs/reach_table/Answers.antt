@@ -4,6 +4,7 @@ use Prim.Native.Nat.{◌-◌, ◌<◌}
 use native.Mathlib.Omega.{arith}
 use Rattle.receivers.proofs.Codes.{code_small, reach_none, reach_more, reach_all}
 use Rattle.receivers.proofs.reach_table.Goals as goal
+use Rattle.receivers.proofs.reach_table.Goals.{After-code}
 
 pub offsets-offsets-requires : goal.offsets-offsets-requires
 offsets-offsets-requires c = c.requires
@@ -21,7 +22,7 @@ pub code-requires : goal.code-requires
 code-requires c = c.loop-p-test.true
 
 -- the code is a byte
-small : (c : goal.After-code) → c.code.result < 256
+small : (c : After-code) → c.code.result < 256
 small c =
     code_small c.loop-p.p c.code.result c.loop-p-test.true c.code.ensures
 

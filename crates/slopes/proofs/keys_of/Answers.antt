@@ -10,6 +10,7 @@ use borrow.Author.Rules.{sfits_of}
 use Rattle.cells.proofs.Keys.{Known, known_read}
 use Rattle.slopes.proofs.Drops.{Gathered, gathered_none, gathered_more, keys_all}
 use Rattle.slopes.proofs.keys_of.Goals as goal
+use Rattle.slopes.proofs.keys_of.Goals.{After-beside}
 
 pub loop-p-init : goal.loop-p-init
 loop-p-init c = gathered_none c.args.g c.args.elevations.now c.args.cell (λ k. k) _ refl
@@ -24,7 +25,7 @@ beside-requires c =
     }
 
 -- the neighbour lies on the sheet
-there : (c : goal.After-beside) → c.beside.result < length c.args.elevations.now
+there : (c : After-beside) → c.beside.result < length c.args.elevations.now
 there c =
     let len = c.requires.elevations_len in
     omega arith

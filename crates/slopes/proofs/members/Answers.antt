@@ -5,9 +5,10 @@ use lib.Dec.{eqb}
 use Rattle.slopes.specs.Steepest.{members_of}
 use Rattle.slopes.proofs.Classes.{bit, members_small}
 use Rattle.slopes.proofs.members.Goals as goal
+use Rattle.slopes.proofs.members.Goals.{After-pick-4}
 
 -- the sum of the four
-all : (c : goal.After-pick-4) →
+all : (c : After-pick-4) →
     let s = c.args in
     c.pick.result + c.pick-2.result + c.pick-3.result + c.pick-4.result
     ≡ members_of s.low s.a s.b s.c s.d

@@ -4,6 +4,7 @@ use native.Mathlib.Omega.{arith}
 use lib.ListN.{length}
 use Rattle.slopes.proofs.Rows.{summing_none, summing_more, summed}
 use Rattle.slopes.proofs.oblong_sums.Goals as goal
+use Rattle.slopes.proofs.oblong_sums.Goals.{After-oblong_sum}
 
 pub loop-cell-init : goal.loop-cell-init
 loop-cell-init c = summing_none _ _ _ _
@@ -22,7 +23,7 @@ oblong_sum-requires c =
     }
 
 -- the cell's place is in the work buffer
-within : (c : goal.After-oblong_sum) → c.loop-cell.cell < length c.loop-cell.work
+within : (c : After-oblong_sum) → c.loop-cell.cell < length c.loop-cell.work
 within c =
     let long = c.requires.to_in_bounds in
     let test = c.loop-cell-test.true in

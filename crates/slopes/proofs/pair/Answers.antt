@@ -4,9 +4,10 @@ use native.Mathlib.Omega.{arith}
 use Rattle.slopes.specs.Steepest.{pair_of}
 use Rattle.slopes.proofs.Classes.{pair_small}
 use Rattle.slopes.proofs.pair.Goals as goal
+use Rattle.slopes.proofs.pair.Goals.{After-pick-2}
 
 -- the sum of the two
-all : (c : goal.After-pick-2) →
+all : (c : After-pick-2) →
     let s = c.args in
     c.pick.result + c.pick-2.result ≡ pair_of s.low s.a s.b
 all c = ap₂ ◌+◌ c.pick.ensures c.pick-2.ensures

@@ -4,6 +4,7 @@ use native.Mathlib.Omega.{arith}
 use lib.ListN.{length}
 use Rattle.slopes.proofs.Rows.{summing_none, summing_more, summed}
 use Rattle.slopes.proofs.square_sums.Goals as goal
+use Rattle.slopes.proofs.square_sums.Goals.{After-square_sum}
 
 pub loop-cell-init : goal.loop-cell-init
 loop-cell-init c = summing_none _ _ _ _
@@ -23,7 +24,7 @@ square_sum-requires c =
     }
 
 -- the cell's place is in the work buffer
-within : (c : goal.After-square_sum) → c.loop-cell.cell < length c.loop-cell.work
+within : (c : After-square_sum) → c.loop-cell.cell < length c.loop-cell.work
 within c =
     let long = c.requires.to_in_bounds in
     let test = c.loop-cell-test.true in
