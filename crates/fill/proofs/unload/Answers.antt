@@ -1,4 +1,5 @@
 -- The first i levels are unloaded.
+use mir.Syntax.{w16}
 use native.Mathlib.Omega.{arith}
 use Prim.Native.Nat.{◌-◌, ◌/◌}
 use mathlib.Core.Path.{sym, ◌∙◌}
@@ -42,7 +43,7 @@ loop-i-preserved c =
       omega arith,
       length-set c.loop-i.filled c.loop-i.i _ ∙ c.loop-i.invariant.1,
       unload_more (λ x. level_of (get_or a.work.now x 0 / 65536)) c.loop-i.filled c.loop-i.i _ (omega arith)
-          (to_z-of_z (sfits_of c.elevation.type-inv) ∙ c.elevation.ensures) c.loop-i.invariant.2,
+          (to_z-of_z {w = w16} (sfits_of c.elevation.type_inv) ∙ c.elevation.ensures) c.loop-i.invariant.2,
     )
 
 pub shape_of-filled : goal.shape_of-filled

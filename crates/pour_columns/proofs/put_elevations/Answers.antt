@@ -1,4 +1,5 @@
 -- The first i elevations are put.
+use mir.Syntax.{w16}
 use mathlib.Core.Path.{◌∙◌}
 use Prim.Native.Nat.{◌-◌}
 use native.Mathlib.Omega.{arith}
@@ -48,7 +49,7 @@ loop-i-preserved c =
     let t = c.loop-i-test.true in (
       omega arith,
       put_more (pos 0) c.args.place (λ j. level_of (get_or c.args.words.now j 0 / 16777216 % 65536)) c.loop-i.i _ c.loop-i.column
-          (omega arith) (to_z-of_z (sfits_of c.elevation.type-inv) ∙ c.elevation.ensures) c.loop-i.invariant.1,
+          (omega arith) (to_z-of_z {w = w16} (sfits_of c.elevation.type_inv) ∙ c.elevation.ensures) c.loop-i.invariant.1,
     )
 
 pub shape_of-column : goal.shape_of-column

@@ -64,7 +64,7 @@ pub loop-p-preserved : goal.loop-p-preserved
 loop-p-preserved c =
     let e = c.args.elevations.now in
     let m = c.beside.result in
-    let q : to_z w16 (of_z w16 (get_or e m (pos 0))) ≡ get_or e m (pos 0) = to_z-of_z (sfits_of c.short_key-arg-1.given) in
+    let q : to_z w16 (of_z w16 (get_or e m (pos 0))) ≡ get_or e m (pos 0) = to_z-of_z {w = w16} (sfits_of c.short_key-arg-1.given) in
     let k = known_read e m c.short_key.result (there c.before.before) (subst (Known c.short_key.result) q (c.short_key.ensures.value, (c.short_key.ensures.upper_bound, c.short_key.ensures.elevation))) in
     gathered_more c.args.g e c.args.cell (λ k. k) c.loop-p.keys c.loop-p.p m c.short_key.result c.short_key.result
     c.loop-p-test.true c.loop-p.invariant c.beside.ensures.value k refl

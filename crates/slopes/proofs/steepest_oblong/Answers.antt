@@ -29,6 +29,6 @@ pub returns : goal.returns
 returns c =
     let w = c.args.width in
     let h = c.args.height in
-    oblong_by c.args.own_val c.args.keys.now (w * w) (h * h) (side_above w c.requires.le_width.0) (side_above h c.requires.le_height.0)
+    oblong_by c.args.own c.args.keys.now (w * w) (h * h) (side_above w c.requires.le_width.0) (side_above h c.requires.le_height.0)
     c.low_across-x.ensures c.low_along-y.ensures c.low_corner-z.ensures c.fall.ensures c.fall-2.ensures
     c.fall-3.ensures c.across_codes-across.ensures.value c.along_codes-along.ensures.value c.corner_codes-corners.ensures.value c.largest.ensures

@@ -1,4 +1,5 @@
 -- `text_sheet::read_line`: q numbers of the line are stored.
+use mir.Syntax.{w16}
 use mathlib.Core.Path.{◌≡◌, refl, ap, ◌∙◌}
 use Prim.Native.Nat.{◌-◌}
 use native.Mathlib.Omega.{arith}
@@ -41,7 +42,7 @@ pub loop-q-preserved : goal.loop-q-preserved
 loop-q-preserved c =
     let number = c.number-number.ensures in (
       omega arith,
-      numbers_more _ _ _ _ c.loop-q.invariant.1 (to_z-of_z (sfits_of c.elevation_of.type-inv) ∙ c.elevation_of.ensures ∙ ap from_twos number.value)
+      numbers_more _ _ _ _ c.loop-q.invariant.1 (to_z-of_z {w = w16} (sfits_of c.elevation_of.type_inv) ∙ c.elevation_of.ensures ∙ ap from_twos number.value)
           number.next,
     )
 
