@@ -7,7 +7,6 @@ use Rattle.grid.specs.Directions.{direction_at}
 use Rattle.flow_laws.specs.Words.{levels_in}
 use Rattle.flow.proofs.Seeds.{stored_more}
 use Rattle.flow.proofs.border_codes.Goals as goal
-use Rattle.flow.proofs.border_codes.Goals.{After-border_code}
 
 pub loop-cell-init : goal.loop-cell-init
 loop-cell-init c = (omega arith, c.requires.from_le_to.0, refl, c.requires.codes_to)
@@ -27,17 +26,14 @@ border_code-requires c =
       nonzero = c.requires.none_lacks c.loop-cell.cell on;
     }
 
--- the cell's place is among the codes
-within : (c : After-border_code) → c.loop-cell.cell < length c.loop-cell.codes
-within c =
-    let long = c.requires.codes_len in
+pub bounds-codes-cell : goal.bounds-codes-cell
+bounds-codes-cell c =
+    let within : c.loop-cell.cell < length c.loop-cell.codes = let long = c.requires.codes_len in
     let last = c.requires.from_le_to.1 in
     let test = c.loop-cell-test.true in
     let same = c.loop-cell.invariant.2 in
-    omega arith
-
-pub bounds-codes-cell : goal.bounds-codes-cell
-bounds-codes-cell c = within c
+    omega arith in
+    within
 
 pub overflow_add-cell : goal.overflow_add-cell
 overflow_add-cell c = let test = c.loop-cell-test.true in omega arith
@@ -47,11 +43,16 @@ loop-cell-smaller c = let test = c.loop-cell-test.true in omega arith
 
 pub loop-cell-preserved : goal.loop-cell-preserved
 loop-cell-preserved c =
+    let within : c.loop-cell.cell < length c.loop-cell.codes = let long = c.requires.codes_len in
+    let last = c.requires.from_le_to.1 in
+    let test = c.loop-cell-test.true in
+    let same = c.loop-cell.invariant.2 in
+    omega arith in
     let a = c.args in
     let r = c.border_code.result in
     let first = c.loop-cell.invariant.0 in
     let test = c.loop-cell-test.true in
-    let next = stored_more (direction_at a.g a.elevations.now (levels_in a.g a.work.now)) c.loop-cell.codes c.loop-cell.cell r (within c)
+    let next = stored_more (direction_at a.g a.elevations.now (levels_in a.g a.work.now)) c.loop-cell.codes c.loop-cell.cell r (within)
     c.loop-cell.invariant.3 c.border_code.ensures in
     (omega arith, omega arith, length-set c.loop-cell.codes c.loop-cell.cell r ∙ c.loop-cell.invariant.2, next)
 

@@ -4,29 +4,28 @@ use native.Mathlib.Omega.{arith}
 use Rattle.grid.specs.Sheet.{size}
 use Rattle.cells.proofs.Rows.{row_on, next_row, within_row}
 use Rattle.flow.proofs.code_row.Goals as goal
-use Rattle.flow.proofs.code_row.Goals.{Start}
-
--- the row after this one lies on the sheet
-room : (s : Start) → s.args.row * s.args.g.cols + s.args.g.cols + s.args.g.cols ≤ size s.args.g
-room s = row_on s.args.g s.args.row s.requires.le_row.1
 
 pub overflow_mul-from : goal.overflow_mul-from
 overflow_mul-from c =
+    let room : c.args.row * c.args.g.cols + c.args.g.cols + c.args.g.cols ≤ size c.args.g = row_on c.args.g c.args.row c.requires.le_row.1 in
     let small = c.requires.g_bound in
-    omega (arith, room c.before.before)
+    omega (arith, room)
 
 pub overflow_add-from : goal.overflow_add-from
 overflow_add-from c =
+    let room : c.args.row * c.args.g.cols + c.args.g.cols + c.args.g.cols ≤ size c.args.g = row_on c.args.g c.args.row c.requires.le_row.1 in
     let small = c.requires.g_bound in
-    omega (arith, room c.before.before)
+    omega (arith, room)
 
 pub overflow_add-to : goal.overflow_add-to
 overflow_add-to c =
+    let room : c.args.row * c.args.g.cols + c.args.g.cols + c.args.g.cols ≤ size c.args.g = row_on c.args.g c.args.row c.requires.le_row.1 in
     let small = c.requires.g_bound in
-    omega (arith, room c.before.before)
+    omega (arith, room)
 
 pub inner_codes-requires : goal.inner_codes-requires
 inner_codes-requires c =
+    let room : c.args.row * c.args.g.cols + c.args.g.cols + c.args.g.cols ≤ size c.args.g = row_on c.args.g c.args.row c.requires.le_row.1 in
     let g = c.args.g in
     let place = c.requires.le_row in
     let wide = place.2 in
@@ -38,7 +37,7 @@ inner_codes-requires c =
       table_value = c.requires.table_value;
       levelled = c.requires.levelled;
       none_lacks = c.requires.none_lacks;
-      from_le_to = (omega arith, omega (arith, room c.before.before.before));
+      from_le_to = (omega arith, omega (arith, room));
       codes_to = c.requires.codes_to;
       by_index = (λ i h k. within_row g c.args.row place.0 place.1 i h (omega arith));
       offsets = c.requires.offsets;
@@ -46,11 +45,13 @@ inner_codes-requires c =
 
 pub overflow_add-to-2 : goal.overflow_add-to-2
 overflow_add-to-2 c =
+    let room : c.args.row * c.args.g.cols + c.args.g.cols + c.args.g.cols ≤ size c.args.g = row_on c.args.g c.args.row c.requires.le_row.1 in
     let small = c.requires.g_bound in
-    omega (arith, room c.before.before.before.before.before.before)
+    omega (arith, room)
 
 pub border_codes-requires : goal.border_codes-requires
 border_codes-requires c =
+    let room : c.args.row * c.args.g.cols + c.args.g.cols + c.args.g.cols ≤ size c.args.g = row_on c.args.g c.args.row c.requires.le_row.1 in
     let wide = c.requires.le_row.2 in
     let same = c.inner_codes.auto.codes in
     record {
@@ -61,7 +62,7 @@ border_codes-requires c =
       table_value = c.requires.table_value;
       levelled = c.requires.levelled;
       none_lacks = c.requires.none_lacks;
-      from_le_to = (omega arith, omega (arith, room c.before.before.before.before.before.before.before));
+      from_le_to = (omega arith, omega (arith, room));
       codes_to = c.inner_codes.ensures;
     }
 

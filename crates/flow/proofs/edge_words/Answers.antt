@@ -5,7 +5,6 @@ use lib.ListN.{length, length-set}
 use Rattle.flow_laws.specs.Words.{first_word}
 use Rattle.flow.proofs.Seeds.{stored_more, marked_set}
 use Rattle.flow.proofs.edge_words.Goals as goal
-use Rattle.flow.proofs.edge_words.Goals.{After-edge_word}
 
 pub loop-cell-init : goal.loop-cell-init
 loop-cell-init c =
@@ -27,17 +26,6 @@ edge_word-requires c =
       marked = c.loop-cell.invariant.4;
     }
 
--- the cell's place is in the work buffer, before the marks
-within : (c : After-edge_word) →
-    (c.loop-cell.cell < length c.loop-cell.work)
-    × (c.loop-cell.cell < c.args.base)
-within c =
-    let marks = c.requires.marks_in in
-    let last = c.requires.from_le_to.1 in
-    let test = c.loop-cell-test.true in
-    let same = c.loop-cell.invariant.2 in
-    (omega arith, omega arith)
-
 pub offset_bounds-work-cell : goal.offset_bounds-work-cell
 offset_bounds-work-cell c =
     let small = c.requires.g_bound in
@@ -46,7 +34,14 @@ offset_bounds-work-cell c =
     omega arith
 
 pub bounds-work-cell : goal.bounds-work-cell
-bounds-work-cell c = (within c).0
+bounds-work-cell c =
+    let within : (c.loop-cell.cell < length c.loop-cell.work)
+    × (c.loop-cell.cell < c.args.base) = let marks = c.requires.marks_in in
+    let last = c.requires.from_le_to.1 in
+    let test = c.loop-cell-test.true in
+    let same = c.loop-cell.invariant.2 in
+    (omega arith, omega arith) in
+    (within).0
 
 pub overflow_add-cell : goal.overflow_add-cell
 overflow_add-cell c = let test = c.loop-cell-test.true in omega arith
@@ -56,16 +51,22 @@ loop-cell-smaller c = let test = c.loop-cell-test.true in omega arith
 
 pub loop-cell-preserved : goal.loop-cell-preserved
 loop-cell-preserved c =
+    let within : (c.loop-cell.cell < length c.loop-cell.work)
+    × (c.loop-cell.cell < c.args.base) = let marks = c.requires.marks_in in
+    let last = c.requires.from_le_to.1 in
+    let test = c.loop-cell-test.true in
+    let same = c.loop-cell.invariant.2 in
+    (omega arith, omega arith) in
     let s = c.args in
     let r = c.edge_word.result in
     let first = c.loop-cell.invariant.0 in
     let test = c.loop-cell-test.true in
-    let next = stored_more (first_word s.g s.elevations.now) c.loop-cell.work c.loop-cell.cell r (within c).0 c.loop-cell.invariant.3 c.edge_word.ensures in (
+    let next = stored_more (first_word s.g s.elevations.now) c.loop-cell.work c.loop-cell.cell r (within).0 c.loop-cell.invariant.3 c.edge_word.ensures in (
       omega arith,
       omega arith,
       length-set c.loop-cell.work c.loop-cell.cell r ∙ c.loop-cell.invariant.2,
       next,
-      marked_set s.g s.elevations.now s.base c.loop-cell.work c.loop-cell.cell r (within c).1 c.loop-cell.invariant.4,
+      marked_set s.g s.elevations.now s.base c.loop-cell.work c.loop-cell.cell r (within).1 c.loop-cell.invariant.4,
     )
 
 pub shape_of-work : goal.shape_of-work

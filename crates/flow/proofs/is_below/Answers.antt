@@ -9,19 +9,15 @@ use Rattle.cells.proofs.Keys.{Known}
 use Rattle.levels.proofs.Keyed.{key_read, differs, agrees, height_data}
 use Rattle.flow.proofs.Flats.{below, below_range}
 use Rattle.flow.proofs.is_below.Goals as goal
-use Rattle.flow.proofs.is_below.Goals.{After-key-own}
-
-own : (c : After-key-own) → Known c.key-own.result (at c.args.elevations.now c.args.m)
-own c =
-    let fits = sfits_of c.key-arg-1.given in
-    key_read c.args.elevations.now c.args.m c.key-own.result c.requires.m_in_bounds fits (c.key-own.ensures.value, (c.key-own.ensures.upper_bound, c.key-own.ensures.elevation))
 
 pub returns-then-own-k : goal.returns-then-own-k
 returns-then-own-k c =
+    let own : Known c.key-own.result (at c.args.elevations.now c.args.m) = let fits = sfits_of c.key-arg-1.given in
+    key_read c.args.elevations.now c.args.m c.key-own.result c.requires.m_in_bounds fits (c.key-own.ensures.value, (c.key-own.ensures.upper_bound, c.key-own.ensures.elevation)) in
     let k = c.args.k in
     record {
       m_value = (λ q. absurd (true≢false (sym q)));
-      fact_2 = λ q h a b. differs k c.key-own.result (own c.before.before).0 c.if-own-k.true h;
+      fact_2 = λ q h a b. differs k c.key-own.result (own).0 c.if-own-k.true h;
     }
 
 pub returns-then-near-low : goal.returns-then-near-low
@@ -39,9 +35,11 @@ returns-then-near-low c =
 
 pub returns : goal.returns
 returns c =
+    let own : Known c.key-own.result (at c.args.elevations.now c.args.m) = let fits = sfits_of c.key-arg-1.given in
+    key_read c.args.elevations.now c.args.m c.key-own.result c.requires.m_in_bounds fits (c.key-own.ensures.value, (c.key-own.ensures.upper_bound, c.key-own.ensures.elevation)) in
     let a = c.args in
     let near = get_or a.work.now a.m 0 in
-    let height = agrees a.k c.key-own.result (own c.before.before.before).0 (own c.before.before.before).1.1.0 c.if-own-k.false in
+    let height = agrees a.k c.key-own.result (own).0 (own).1.1.0 c.if-own-k.false in
     let no_void = c.requires.fact (height_data a.elevations.now a.m a.k height c.requires.k_nonzero) in
     record {
       m_value = (λ q. (height, below near a.low a.word c.requires.le_word c.requires.low_value c.requires.low_value_2 c.if-near-low.false (ltb-true near a.word q) no_void));

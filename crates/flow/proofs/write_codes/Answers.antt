@@ -11,17 +11,6 @@ use Rattle.flow_laws.specs.Words.{levels_in}
 use Rattle.flow.specs.Coding.{CodesTo}
 use Rattle.flow.proofs.Flats.{codes_none}
 use Rattle.flow.proofs.write_codes.Goals as goal
-use Rattle.flow.proofs.write_codes.Goals.{Start}
-
--- where every cell has its code, the codes are those of the sheet
-whole : (s : Start) (codes : List ℕ) → length codes ≡ length s.args.codes.now →
-    let a = s.args in
-    CodesTo a.g a.elevations.now a.work.now (size a.g) codes →
-    codes ≡ table (size a.g) (direction_at a.g a.elevations.now (levels_in a.g a.work.now))
-whole s codes same to =
-    let a = s.args in
-    is_table (size a.g) (direction_at a.g a.elevations.now (levels_in a.g a.work.now)) codes 0
-    (same ∙ s.requires.codes_len) to
 
 pub border_codes-requires : goal.border_codes-requires
 border_codes-requires c =
@@ -41,8 +30,14 @@ border_codes-requires c =
 
 pub returns-then-g-lt3 : goal.returns-then-g-lt3
 returns-then-g-lt3 c =
+    let whole : (codes : List ℕ) → length codes ≡ length c.args.codes.now →
+    let a = c.args in
+    CodesTo a.g a.elevations.now a.work.now (size a.g) codes →
+    codes ≡ table (size a.g) (direction_at a.g a.elevations.now (levels_in a.g a.work.now)) = λ codes same to. let a = c.args in
+    is_table (size a.g) (direction_at a.g a.elevations.now (levels_in a.g a.work.now)) codes 0
+    (same ∙ c.requires.codes_len) to in
     let len = c.requires.elevations_len in
-    whole c.before.before.before.before.before.before.before.before.before.before c.border_codes.new.codes c.border_codes.auto.codes (λ i h. c.border_codes.ensures i (omega arith))
+    whole c.border_codes.new.codes c.border_codes.auto.codes (λ i h. c.border_codes.ensures i (omega arith))
 
 pub border_codes-requires-then-g-lt3-2 : goal.border_codes-requires-then-g-lt3-2
 border_codes-requires-then-g-lt3-2 c =
@@ -62,8 +57,14 @@ border_codes-requires-then-g-lt3-2 c =
 
 pub returns-then-g-lt3-2 : goal.returns-then-g-lt3-2
 returns-then-g-lt3-2 c =
+    let whole : (codes : List ℕ) → length codes ≡ length c.args.codes.now →
+    let a = c.args in
+    CodesTo a.g a.elevations.now a.work.now (size a.g) codes →
+    codes ≡ table (size a.g) (direction_at a.g a.elevations.now (levels_in a.g a.work.now)) = λ codes same to. let a = c.args in
+    is_table (size a.g) (direction_at a.g a.elevations.now (levels_in a.g a.work.now)) codes 0
+    (same ∙ c.requires.codes_len) to in
     let len = c.requires.elevations_len in
-    whole c.before.before.before.before.before.before.before.before.before.before.before.before c.border_codes-then-g-lt3-2.new.codes c.border_codes-then-g-lt3-2.auto.codes (λ i h. c.border_codes-then-g-lt3-2.ensures i (omega arith))
+    whole c.border_codes-then-g-lt3-2.new.codes c.border_codes-then-g-lt3-2.auto.codes (λ i h. c.border_codes-then-g-lt3-2.ensures i (omega arith))
 
 pub code_rows-requires : goal.code_rows-requires
 code_rows-requires c =
@@ -83,4 +84,10 @@ code_rows-requires c =
 
 pub returns : goal.returns
 returns c =
-    whole c.before.before.before.before.before.before.before.before.before.before.before.before c.code_rows.new.codes c.code_rows.auto.codes c.code_rows.ensures
+    let whole : (codes : List ℕ) → length codes ≡ length c.args.codes.now →
+    let a = c.args in
+    CodesTo a.g a.elevations.now a.work.now (size a.g) codes →
+    codes ≡ table (size a.g) (direction_at a.g a.elevations.now (levels_in a.g a.work.now)) = λ codes same to. let a = c.args in
+    is_table (size a.g) (direction_at a.g a.elevations.now (levels_in a.g a.work.now)) codes 0
+    (same ∙ c.requires.codes_len) to in
+    whole c.code_rows.new.codes c.code_rows.auto.codes c.code_rows.ensures

@@ -4,12 +4,6 @@ use native.Mathlib.Omega.{arith}
 use Rattle.grid.specs.Sheet.{size}
 use Rattle.flow_laws.proofs.Words.{searching_most}
 use Rattle.levels.proofs.empty_open.Goals as goal
-use Rattle.levels.proofs.empty_open.Goals.{At-loop-head}
-
--- the queue is never longer than there are cells
-most : (a : At-loop-head) → a.loop-head.end ≤ size a.args.g
-most a =
-    searching_most a.args.g a.args.elevations.now a.requires.elevations_len a.args.half a.loop-head.work a.loop-head.invariant.1
 
 pub loop-head-init : goal.loop-head-init
 loop-head-init c = (refl, c.requires.searching)
@@ -32,15 +26,17 @@ spread_open-end-requires c =
 
 pub overflow_add-head : goal.overflow_add-head
 overflow_add-head c =
+    let most : c.loop-head.end ≤ size c.args.g = searching_most c.args.g c.args.elevations.now c.requires.elevations_len c.args.half c.loop-head.work c.loop-head.invariant.1 in
     let test = c.loop-head-test.true in
     let small = c.requires.g_bound in
-    let m = most c.before.before.before.before.before in
+    let m = most in
     omega arith
 
 pub loop-head-smaller : goal.loop-head-smaller
 loop-head-smaller c =
+    let most : c.loop-head.end ≤ size c.args.g = searching_most c.args.g c.args.elevations.now c.requires.elevations_len c.args.half c.loop-head.work c.loop-head.invariant.1 in
     let test = c.loop-head-test.true in
-    let m = most c.before.before.before.before.before in
+    let m = most in
     omega arith
 
 pub loop-head-preserved : goal.loop-head-preserved

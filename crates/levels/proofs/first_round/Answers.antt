@@ -2,13 +2,10 @@ use native.Mathlib.Omega.{arith}
 use Rattle.flow_laws.specs.Words.{Joining}
 use Rattle.levels.proofs.Joined.{joining_none}
 use Rattle.levels.proofs.first_round.Goals as goal
-use Rattle.levels.proofs.first_round.Goals.{Start}
-
-joining : (s : Start) → Joining s.args.g s.args.elevations.now s.args.half s.args.work.now 0 0
-joining s = let a = s.args in joining_none a.g a.elevations.now a.half a.work.now s.requires.seeded
 
 pub border_run-requires : goal.border_run-requires
 border_run-requires c =
+    let joining : Joining c.args.g c.args.elevations.now c.args.half c.args.work.now 0 0 = let a = c.args in joining_none a.g a.elevations.now a.half a.work.now c.requires.seeded in
     let len = c.requires.elevations_len in
     record {
       elevations_len = len;
@@ -16,7 +13,7 @@ border_run-requires c =
       g_bound_2 = c.requires.g_bound_2;
       g_in_bounds = c.requires.g_in_bounds;
       from_le_to = (omega arith, omega arith);
-      joining = joining c.before.before.before.before;
+      joining = joining;
     }
 
 pub returns-then-g-lt3 : goal.returns-then-g-lt3
@@ -26,6 +23,7 @@ returns-then-g-lt3 c =
 
 pub border_run-requires-then-g-lt3-2 : goal.border_run-requires-then-g-lt3-2
 border_run-requires-then-g-lt3-2 c =
+    let joining : Joining c.args.g c.args.elevations.now c.args.half c.args.work.now 0 0 = let a = c.args in joining_none a.g a.elevations.now a.half a.work.now c.requires.seeded in
     let len = c.requires.elevations_len in
     record {
       elevations_len = len;
@@ -33,7 +31,7 @@ border_run-requires-then-g-lt3-2 c =
       g_bound_2 = c.requires.g_bound_2;
       g_in_bounds = c.requires.g_in_bounds;
       from_le_to = (omega arith, omega arith);
-      joining = joining c.before.before.before.before.before.before;
+      joining = joining;
     }
 
 pub returns-then-g-lt3-2 : goal.returns-then-g-lt3-2
@@ -43,6 +41,7 @@ returns-then-g-lt3-2 c =
 
 pub round_rows-requires : goal.round_rows-requires
 round_rows-requires c =
+    let joining : Joining c.args.g c.args.elevations.now c.args.half c.args.work.now 0 0 = let a = c.args in joining_none a.g a.elevations.now a.half a.work.now c.requires.seeded in
     let wide = c.if-g-lt3-2.false in
     let tall = c.if-g-lt3.false in
     record {
@@ -51,7 +50,7 @@ round_rows-requires c =
       g_bound_2 = c.requires.g_bound_2;
       g_in_bounds = c.requires.g_in_bounds;
       le_rows = (omega arith, omega arith);
-      joining = joining c.before.before.before.before.before.before;
+      joining = joining;
       offsets = c.requires.offsets;
     }
 

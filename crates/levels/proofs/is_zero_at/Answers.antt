@@ -6,19 +6,15 @@ use Rattle.grid.specs.Sheet.{at}
 use Rattle.cells.proofs.Keys.{Known}
 use Rattle.levels.proofs.Keyed.{key_read, differs, agrees}
 use Rattle.levels.proofs.is_zero_at.Goals as goal
-use Rattle.levels.proofs.is_zero_at.Goals.{After-key-own}
-
-own : (c : After-key-own) → Known c.key-own.result (at c.args.elevations.now c.args.m)
-own c =
-    let fits = sfits_of c.key-arg-1.given in
-    key_read c.args.elevations.now c.args.m c.key-own.result c.requires.m_in_bounds fits (c.key-own.ensures.value, (c.key-own.ensures.upper_bound, c.key-own.ensures.elevation))
 
 pub returns-then-own-k : goal.returns-then-own-k
 returns-then-own-k c =
+    let own : Known c.key-own.result (at c.args.elevations.now c.args.m) = let fits = sfits_of c.key-arg-1.given in
+    key_read c.args.elevations.now c.args.m c.key-own.result c.requires.m_in_bounds fits (c.key-own.ensures.value, (c.key-own.ensures.upper_bound, c.key-own.ensures.elevation)) in
     let k = c.args.k in
     record {
       m_value = (λ q. absurd (true≢false (sym q)));
-      bound = λ q h. absurd (differs k c.key-own.result (own c.before.before).0 c.if-own-k.true h);
+      bound = λ q h. absurd (differs k c.key-own.result (own).0 c.if-own-k.true h);
     }
 
 pub returns-then-word-eq0 : goal.returns-then-word-eq0
@@ -37,9 +33,11 @@ returns-then-word-ge256 c =
 
 pub returns : goal.returns
 returns c =
+    let own : Known c.key-own.result (at c.args.elevations.now c.args.m) = let fits = sfits_of c.key-arg-1.given in
+    key_read c.args.elevations.now c.args.m c.key-own.result c.requires.m_in_bounds fits (c.key-own.ensures.value, (c.key-own.ensures.upper_bound, c.key-own.ensures.elevation)) in
     let k = c.args.k in
     let some = c.if-word-eq0.false in
     record {
-      m_value = (λ q. (agrees k c.key-own.result (own c.before.before.before.before).0 (own c.before.before.before.before).1.1.0 c.if-own-k.false, (omega arith, c.if-word-ge256.false)));
+      m_value = (λ q. (agrees k c.key-own.result (own).0 (own).1.1.0 c.if-own-k.false, (omega arith, c.if-word-ge256.false)));
       bound = λ q. absurd (true≢false q);
     }

@@ -7,19 +7,6 @@ use Rattle.cells.specs.Keys.{level_of}
 use Rattle.levels.proofs.Keyed.{key_read, data_known}
 use Rattle.levels.proofs.Joined.{joining_has, joining_data, joining_alone, joining_room, joining_next}
 use Rattle.levels.proofs.join_inner.Goals as goal
-use Rattle.levels.proofs.join_inner.Goals.{After-key-k}
-
--- a cell without a word holds data, so its key is above 0
-own : (c : After-key-k) → (at c.args.elevations.now c.args.cell ≡ level_of c.key-k.result) × (0 < c.key-k.result)
-own c =
-    let a = c.args in
-    let len = c.requires.elevations_len in
-    let on = c.requires.cell_bound in
-    let fits = sfits_of c.key-arg-1.given in
-    data_known a.elevations.now a.cell c.key-k.result
-    (key_read a.elevations.now a.cell c.key-k.result (omega arith) fits (c.key-k.ensures.value, (c.key-k.ensures.upper_bound, c.key-k.ensures.elevation)))
-    (joining_data a.g a.elevations.now len a.half a.work.now a.cell a.tail on c.requires.joining
-    c.if-work-cell-ne0.false)
 
 pub returns-then-work-cell-ne0 : goal.returns-then-work-cell-ne0
 returns-then-work-cell-ne0 c =
@@ -29,14 +16,22 @@ returns-then-work-cell-ne0 c =
 
 pub zero_inner-requires : goal.zero_inner-requires
 zero_inner-requires c =
+    let own : (at c.args.elevations.now c.args.cell ≡ level_of c.key-k.result) × (0 < c.key-k.result) = let a = c.args in
+    let len = c.requires.elevations_len in
+    let on = c.requires.cell_bound in
+    let fits = sfits_of c.key-arg-1.given in
+    data_known a.elevations.now a.cell c.key-k.result
+    (key_read a.elevations.now a.cell c.key-k.result (omega arith) fits (c.key-k.ensures.value, (c.key-k.ensures.upper_bound, c.key-k.ensures.elevation)))
+    (joining_data a.g a.elevations.now len a.half a.work.now a.cell a.tail on c.requires.joining
+    c.if-work-cell-ne0.false) in
     let inner = c.requires.inner in
     record {
       elevations_len = c.requires.elevations_len;
       g_bound = c.requires.g_bound;
       g_in_bounds = omega arith;
       inner = inner;
-      cell_value = (own c).0;
-      k_nonzero = (own c).1;
+      cell_value = (own).0;
+      k_nonzero = (own).1;
       offsets = c.requires.offsets;
     }
 

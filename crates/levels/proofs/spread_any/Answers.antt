@@ -7,23 +7,25 @@ use Rattle.grid.specs.Sheet.{size}
 use Rattle.grid_laws.proofs.Neighbours.{cols_positive}
 use Rattle.levels.proofs.Spreading.{x_on, spreading_room, spreading_more, spreading_end}
 use Rattle.levels.proofs.spread_any.Goals as goal
-use Rattle.levels.proofs.spread_any.Goals.{Start}
-
-on : (s : Start) → s.args.cell < size s.args.g
-on s =
-    let a = s.args in
-    x_on a.g a.elevations.now s.requires.elevations_len a.half a.work.now a.head a.tail a.cell a.word 0 s.requires.spreading
 
 pub nonzero_div-cell : goal.nonzero_div-cell
-nonzero_div-cell c = cols_positive c.args.g c.args.cell (on c.before)
+nonzero_div-cell c =
+    let on : c.args.cell < size c.args.g = let a = c.args in
+    x_on a.g a.elevations.now c.requires.elevations_len a.half a.work.now a.head a.tail a.cell a.word 0 c.requires.spreading in
+    cols_positive c.args.g c.args.cell (on)
 
 pub nonzero_rem-cell : goal.nonzero_rem-cell
-nonzero_rem-cell c = cols_positive c.args.g c.args.cell (on c.before)
+nonzero_rem-cell c =
+    let on : c.args.cell < size c.args.g = let a = c.args in
+    x_on a.g a.elevations.now c.requires.elevations_len a.half a.work.now a.head a.tail a.cell a.word 0 c.requires.spreading in
+    cols_positive c.args.g c.args.cell (on)
 
 pub is_inner-inner-requires : goal.is_inner-inner-requires
 is_inner-inner-requires c =
+    let on : c.args.cell < size c.args.g = let a = c.args in
+    x_on a.g a.elevations.now c.requires.elevations_len a.half a.work.now a.head a.tail a.cell a.word 0 c.requires.spreading in
     let small = c.requires.g_bound in
-    let here = on c.before in
+    let here = on in
     let row = div-le_self c.args.cell c.args.g.cols in
     let col = mod-le c.args.cell c.args.g.cols in
     record {
@@ -36,9 +38,11 @@ loop-p-init c = (omega arith, refl, c.requires.spreading)
 
 pub near-m-requires : goal.near-m-requires
 near-m-requires c =
+    let on : c.args.cell < size c.args.g = let a = c.args in
+    x_on a.g a.elevations.now c.requires.elevations_len a.half a.work.now a.head a.tail a.cell a.word 0 c.requires.spreading in
     record {
       g_bound = c.requires.g_bound;
-      cell_bound = on c.before.before.before.before;
+      cell_bound = on;
       inner = c.is_inner-inner.ensures;
       p_bound = c.loop-p-test.true;
       offsets = c.requires.offsets;

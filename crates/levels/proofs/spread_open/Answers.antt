@@ -3,54 +3,88 @@ use native.Mathlib.Omega.{arith}
 use lib.ListN.{get_or}
 use Rattle.levels.proofs.Spreading.{Reading, reading, x_within}
 use Rattle.levels.proofs.spread_open.Goals as goal
-use Rattle.levels.proofs.spread_open.Goals.{Start}
-
--- the queue's first
-abbrev first : Start → ℕ
-first s = get_or s.args.work.now (s.args.half + s.args.head) 0
-
-read : (s : Start) → Reading s.args.g s.args.elevations.now s.args.half s.args.work.now s.args.head
-    s.args.tail (first s)
-read s =
-    let a = s.args in
-    reading a.g a.elevations.now s.requires.elevations_len a.half a.work.now a.head a.tail s.requires.searching
-    s.requires.head_lt_tail
 
 pub overflow_add-cell : goal.overflow_add-cell
-overflow_add-cell c = omega (arith, (read c.before).few)
+overflow_add-cell c =
+    let first : ℕ = get_or c.args.work.now (c.args.half + c.args.head) 0 in
+    let read : Reading c.args.g c.args.elevations.now c.args.half c.args.work.now c.args.head
+    c.args.tail (first) = let a = c.args in
+    reading a.g a.elevations.now c.requires.elevations_len a.half a.work.now a.head a.tail c.requires.searching
+    c.requires.head_lt_tail in
+    omega (arith, (read).few)
 
 pub offset_bounds-work-half : goal.offset_bounds-work-half
-offset_bounds-work-half c = omega (arith, (read c.before).few)
+offset_bounds-work-half c =
+    let first : ℕ = get_or c.args.work.now (c.args.half + c.args.head) 0 in
+    let read : Reading c.args.g c.args.elevations.now c.args.half c.args.work.now c.args.head
+    c.args.tail (first) = let a = c.args in
+    reading a.g a.elevations.now c.requires.elevations_len a.half a.work.now a.head a.tail c.requires.searching
+    c.requires.head_lt_tail in
+    omega (arith, (read).few)
 
 pub bounds-work-half : goal.bounds-work-half
-bounds-work-half c = omega (arith, (read c.before.before).few)
+bounds-work-half c =
+    let first : ℕ = get_or c.args.work.now (c.args.half + c.args.head) 0 in
+    let read : Reading c.args.g c.args.elevations.now c.args.half c.args.work.now c.args.head
+    c.args.tail (first) = let a = c.args in
+    reading a.g a.elevations.now c.requires.elevations_len a.half a.work.now a.head a.tail c.requires.searching
+    c.requires.head_lt_tail in
+    omega (arith, (read).few)
 
 pub overflow_cast-cell : goal.overflow_cast-cell
-overflow_cast-cell c = omega (arith, (read c.before.before).on)
+overflow_cast-cell c =
+    let first : ℕ = get_or c.args.work.now (c.args.half + c.args.head) 0 in
+    let read : Reading c.args.g c.args.elevations.now c.args.half c.args.work.now c.args.head
+    c.args.tail (first) = let a = c.args in
+    reading a.g a.elevations.now c.requires.elevations_len a.half a.work.now a.head a.tail c.requires.searching
+    c.requires.head_lt_tail in
+    omega (arith, (read).on)
 
 pub offset_bounds-work-cell : goal.offset_bounds-work-cell
-offset_bounds-work-cell c = omega (arith, (read c.before.before).on)
+offset_bounds-work-cell c =
+    let first : ℕ = get_or c.args.work.now (c.args.half + c.args.head) 0 in
+    let read : Reading c.args.g c.args.elevations.now c.args.half c.args.work.now c.args.head
+    c.args.tail (first) = let a = c.args in
+    reading a.g a.elevations.now c.requires.elevations_len a.half a.work.now a.head a.tail c.requires.searching
+    c.requires.head_lt_tail in
+    omega (arith, (read).on)
 
 pub bounds-work-cell : goal.bounds-work-cell
-bounds-work-cell c = omega (arith, (read c.before.before.before).on)
+bounds-work-cell c =
+    let first : ℕ = get_or c.args.work.now (c.args.half + c.args.head) 0 in
+    let read : Reading c.args.g c.args.elevations.now c.args.half c.args.work.now c.args.head
+    c.args.tail (first) = let a = c.args in
+    reading a.g a.elevations.now c.requires.elevations_len a.half a.work.now a.head a.tail c.requires.searching
+    c.requires.head_lt_tail in
+    omega (arith, (read).on)
 
 pub overflow_add-word : goal.overflow_add-word
 overflow_add-word c =
+    let first : ℕ = get_or c.args.work.now (c.args.half + c.args.head) 0 in
+    let read : Reading c.args.g c.args.elevations.now c.args.half c.args.work.now c.args.head
+    c.args.tail (first) = let a = c.args in
+    reading a.g a.elevations.now c.requires.elevations_len a.half a.work.now a.head a.tail c.requires.searching
+    c.requires.head_lt_tail in
     let small = c.requires.g_bound in
-    omega (arith, (read c.before.before.before).low)
+    omega (arith, (read).low)
 
 pub spread_inner-requires : goal.spread_inner-requires
 spread_inner-requires c =
+    let first : ℕ = get_or c.args.work.now (c.args.half + c.args.head) 0 in
+    let read : Reading c.args.g c.args.elevations.now c.args.half c.args.work.now c.args.head
+    c.args.tail (first) = let a = c.args in
+    reading a.g a.elevations.now c.requires.elevations_len a.half a.work.now a.head a.tail c.requires.searching
+    c.requires.head_lt_tail in
     let a = c.args in
     let inner =
-    x_within a.g a.elevations.now c.requires.elevations_len a.half a.work.now a.head a.tail (first c.before.before.before.before) _ 0 (read c.before.before.before.before).spreading
+    x_within a.g a.elevations.now c.requires.elevations_len a.half a.work.now a.head a.tail (first) _ 0 (read).spreading
     c.requires.sides_value in
     record {
       elevations_len = c.requires.elevations_len;
       g_bound = c.requires.g_bound;
       g_bound_2 = c.requires.g_bound_2;
       g_in_bounds = c.requires.g_in_bounds;
-      spreading = (read c.before.before.before.before).spreading;
+      spreading = (read).spreading;
       inner = inner;
       offsets = c.requires.offsets;
     }

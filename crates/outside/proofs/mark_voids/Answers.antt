@@ -10,35 +10,47 @@ use Rattle.grid.specs.Sheet.{is_data}
 use Rattle.outside.proofs.Seeds.{void_mark_is}
 use borrow.Author.Rules.{rules}
 use Rattle.outside.proofs.mark_voids.Goals as goal
-use Rattle.outside.proofs.mark_voids.Goals.{After-void_mark}
 
 pub loop-cell-init : goal.loop-cell-init
 loop-cell-init c = (omega arith, refl, λ i h. let z : ⊥ = omega arith in absurd z, λ i h. refl)
 
--- the mark's place is in the work buffer
-within : (c : After-void_mark) →
-    c.args.base + c.loop-cell.cell
-    < length c.loop-cell.work
-within c =
-    let room = c.requires in
+pub overflow_add-work : goal.overflow_add-work
+overflow_add-work c =
+    let within : c.args.base + c.loop-cell.cell
+    < length c.loop-cell.work = let room = c.requires in
     let h = c.loop-cell-test.true in
     let same = c.loop-cell.invariant.1 in
-    omega arith
-
-pub overflow_add-work : goal.overflow_add-work
-overflow_add-work c = search (rules, within c)
+    omega arith in
+    search (rules, within)
 
 pub offset_bounds-work-base : goal.offset_bounds-work-base
-offset_bounds-work-base c = search (rules, within c)
+offset_bounds-work-base c =
+    let within : c.args.base + c.loop-cell.cell
+    < length c.loop-cell.work = let room = c.requires in
+    let h = c.loop-cell-test.true in
+    let same = c.loop-cell.invariant.1 in
+    omega arith in
+    search (rules, within)
 
 pub bounds-work-base : goal.bounds-work-base
-bounds-work-base c = within c
+bounds-work-base c =
+    let within : c.args.base + c.loop-cell.cell
+    < length c.loop-cell.work = let room = c.requires in
+    let h = c.loop-cell-test.true in
+    let same = c.loop-cell.invariant.1 in
+    omega arith in
+    within
 
 pub loop-cell-smaller : goal.loop-cell-smaller
 loop-cell-smaller c = let h = c.loop-cell-test.true in omega arith
 
 pub loop-cell-preserved : goal.loop-cell-preserved
 loop-cell-preserved c =
+    let within : c.args.base + c.loop-cell.cell
+    < length c.loop-cell.work = let room = c.requires in
+    let h = c.loop-cell-test.true in
+    let same = c.loop-cell.invariant.1 in
+    omega arith in
     let h = c.loop-cell-test.true in
     let a = c.args in
     let e = a.elevations.now in
@@ -51,7 +63,7 @@ loop-cell-preserved c =
       length-set w (a.base + i) v ∙ c.loop-cell.invariant.1,
       below_more (λ j. get_or (set w (a.base + i) v) (a.base + j) 0 ≡ cond (is_data e j) 0 1) i
           (λ j m. get_or-set_other w (a.base + i) (a.base + j) v 0 (λ r. omega arith) ∙ c.loop-cell.invariant.2 j m)
-          (get_or-set_same w (a.base + i) v 0 (within c) ∙ value),
+          (get_or-set_same w (a.base + i) v 0 (within) ∙ value),
       λ j m. get_or-set_other w (a.base + i) j v 0 (λ r. omega arith) ∙ c.loop-cell.invariant.3 j m,
     )
 

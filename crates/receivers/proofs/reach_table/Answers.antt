@@ -4,7 +4,6 @@ use Prim.Native.Nat.{◌-◌, ◌<◌}
 use native.Mathlib.Omega.{arith}
 use Rattle.receivers.proofs.Codes.{code_small, reach_none, reach_more, reach_all}
 use Rattle.receivers.proofs.reach_table.Goals as goal
-use Rattle.receivers.proofs.reach_table.Goals.{After-code}
 
 pub offsets-offsets-requires : goal.offsets-offsets-requires
 offsets-offsets-requires c = c.requires
@@ -21,19 +20,20 @@ bounds-offsets-p c = c.loop-p-test.true
 pub code-requires : goal.code-requires
 code-requires c = c.loop-p-test.true
 
--- the code is a byte
-small : (c : After-code) → c.code.result < 256
-small c =
-    code_small c.loop-p.p c.code.result c.loop-p-test.true c.code.ensures
-
 pub overflow_cast-table : goal.overflow_cast-table
-overflow_cast-table c = let a = small c in omega arith
+overflow_cast-table c =
+    let small : c.code.result < 256 = code_small c.loop-p.p c.code.result c.loop-p-test.true c.code.ensures in
+    let a = small in omega arith
 
 pub offset_bounds-table-code : goal.offset_bounds-table-code
-offset_bounds-table-code c = let a = small c in omega arith
+offset_bounds-table-code c =
+    let small : c.code.result < 256 = code_small c.loop-p.p c.code.result c.loop-p-test.true c.code.ensures in
+    let a = small in omega arith
 
 pub bounds-table-code : goal.bounds-table-code
-bounds-table-code c = small c
+bounds-table-code c =
+    let small : c.code.result < 256 = code_small c.loop-p.p c.code.result c.loop-p-test.true c.code.ensures in
+    small
 
 pub overflow_add-p : goal.overflow_add-p
 overflow_add-p c = let h = c.loop-p-test.true in omega arith

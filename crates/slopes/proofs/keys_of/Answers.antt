@@ -10,7 +10,6 @@ use borrow.Author.Rules.{sfits_of}
 use Rattle.cells.proofs.Keys.{Known, known_read}
 use Rattle.slopes.proofs.Drops.{Gathered, gathered_none, gathered_more, keys_all}
 use Rattle.slopes.proofs.keys_of.Goals as goal
-use Rattle.slopes.proofs.keys_of.Goals.{After-beside}
 
 pub loop-p-init : goal.loop-p-init
 loop-p-init c = gathered_none c.args.g c.args.elevations.now c.args.cell (λ k. k) _ refl
@@ -24,12 +23,6 @@ beside-requires c =
       offsets = c.requires.offsets;
     }
 
--- the neighbour lies on the sheet
-there : (c : After-beside) → c.beside.result < length c.args.elevations.now
-there c =
-    let len = c.requires.elevations_len in
-    omega arith
-
 pub offset_bounds-elevations-beside : goal.offset_bounds-elevations-beside
 offset_bounds-elevations-beside c =
     let len = c.requires.elevations_len in
@@ -37,7 +30,10 @@ offset_bounds-elevations-beside c =
     omega arith
 
 pub bounds-elevations-beside : goal.bounds-elevations-beside
-bounds-elevations-beside c = there c
+bounds-elevations-beside c =
+    let there : c.beside.result < length c.args.elevations.now = let len = c.requires.elevations_len in
+    omega arith in
+    there
 
 pub short_key-requires : goal.short_key-requires
 short_key-requires c = tt
@@ -62,10 +58,12 @@ loop-p-smaller c =
 
 pub loop-p-preserved : goal.loop-p-preserved
 loop-p-preserved c =
+    let there : c.beside.result < length c.args.elevations.now = let len = c.requires.elevations_len in
+    omega arith in
     let e = c.args.elevations.now in
     let m = c.beside.result in
     let q : to_z w16 (of_z w16 (get_or e m (pos 0))) ≡ get_or e m (pos 0) = to_z-of_z {w = w16} (sfits_of c.short_key-arg-1.given) in
-    let k = known_read e m c.short_key.result (there c.before.before) (subst (Known c.short_key.result) q (c.short_key.ensures.value, (c.short_key.ensures.upper_bound, c.short_key.ensures.elevation))) in
+    let k = known_read e m c.short_key.result (there) (subst (Known c.short_key.result) q (c.short_key.ensures.value, (c.short_key.ensures.upper_bound, c.short_key.ensures.elevation))) in
     gathered_more c.args.g e c.args.cell (λ k. k) c.loop-p.keys c.loop-p.p m c.short_key.result c.short_key.result
     c.loop-p-test.true c.loop-p.invariant c.beside.ensures.value k refl
 

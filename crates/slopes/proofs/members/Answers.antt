@@ -5,16 +5,6 @@ use lib.Dec.{eqb}
 use Rattle.slopes.specs.Steepest.{members_of}
 use Rattle.slopes.proofs.Classes.{bit, members_small}
 use Rattle.slopes.proofs.members.Goals as goal
-use Rattle.slopes.proofs.members.Goals.{After-pick-4}
-
--- the sum of the four
-all : (c : After-pick-4) →
-    let s = c.args in
-    c.pick.result + c.pick-2.result + c.pick-3.result + c.pick-4.result
-    ≡ members_of s.low s.a s.b s.c s.d
-all c =
-    ap₂ ◌+◌ (ap₂ ◌+◌ (ap₂ ◌+◌ c.pick.ensures c.pick-2.ensures) c.pick-3.ensures)
-    c.pick-4.ensures
 
 pub overflow_add-result : goal.overflow_add-result
 overflow_add-result c =
@@ -40,13 +30,21 @@ overflow_add-result-2 c =
 
 pub overflow_add-result-3 : goal.overflow_add-result-3
 overflow_add-result-3 c =
+    let all : let s = c.args in
+    c.pick.result + c.pick-2.result + c.pick-3.result + c.pick-4.result
+    ≡ members_of s.low s.a s.b s.c s.d = ap₂ ◌+◌ (ap₂ ◌+◌ (ap₂ ◌+◌ c.pick.ensures c.pick-2.ensures) c.pick-3.ensures)
+    c.pick-4.ensures in
     let s = c.args in
-    omega (arith, all c, members_small s.low s.a s.b s.c s.d)
+    omega (arith, all, members_small s.low s.a s.b s.c s.d)
 
 pub returns : goal.returns
 returns c =
+    let all : let s = c.args in
+    c.pick.result + c.pick-2.result + c.pick-3.result + c.pick-4.result
+    ≡ members_of s.low s.a s.b s.c s.d = ap₂ ◌+◌ (ap₂ ◌+◌ (ap₂ ◌+◌ c.pick.ensures c.pick-2.ensures) c.pick-3.ensures)
+    c.pick-4.ensures in
     let s = c.args in
     record {
-      value = all c;
-      upper_bound = subst (λ (x : ℕ). x ≤ 85) (sym (all c)) (members_small s.low s.a s.b s.c s.d);
+      value = all;
+      upper_bound = subst (λ (x : ℕ). x ≤ 85) (sym (all)) (members_small s.low s.a s.b s.c s.d);
     }

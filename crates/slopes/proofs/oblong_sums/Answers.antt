@@ -4,7 +4,6 @@ use native.Mathlib.Omega.{arith}
 use lib.ListN.{length}
 use Rattle.slopes.proofs.Rows.{summing_none, summing_more, summed}
 use Rattle.slopes.proofs.oblong_sums.Goals as goal
-use Rattle.slopes.proofs.oblong_sums.Goals.{After-oblong_sum}
 
 pub loop-cell-init : goal.loop-cell-init
 loop-cell-init c = summing_none _ _ _ _
@@ -22,14 +21,6 @@ oblong_sum-requires c =
       shaped = c.requires.shaped;
     }
 
--- the cell's place is in the work buffer
-within : (c : After-oblong_sum) → c.loop-cell.cell < length c.loop-cell.work
-within c =
-    let long = c.requires.to_in_bounds in
-    let test = c.loop-cell-test.true in
-    let same = c.loop-cell.invariant.same in
-    omega arith
-
 pub offset_bounds-work-cell : goal.offset_bounds-work-cell
 offset_bounds-work-cell c =
     let test = c.loop-cell-test.true in
@@ -38,7 +29,12 @@ offset_bounds-work-cell c =
     omega arith
 
 pub bounds-work-cell : goal.bounds-work-cell
-bounds-work-cell c = within c
+bounds-work-cell c =
+    let within : c.loop-cell.cell < length c.loop-cell.work = let long = c.requires.to_in_bounds in
+    let test = c.loop-cell-test.true in
+    let same = c.loop-cell.invariant.same in
+    omega arith in
+    within
 
 pub overflow_add-cell : goal.overflow_add-cell
 overflow_add-cell c = let test = c.loop-cell-test.true in omega arith
@@ -48,9 +44,13 @@ loop-cell-smaller c = let test = c.loop-cell-test.true in omega arith
 
 pub loop-cell-preserved : goal.loop-cell-preserved
 loop-cell-preserved c =
+    let within : c.loop-cell.cell < length c.loop-cell.work = let long = c.requires.to_in_bounds in
+    let test = c.loop-cell-test.true in
+    let same = c.loop-cell.invariant.same in
+    omega arith in
     let test = c.loop-cell-test.true in
     let last = c.requires.to_bound in
-    summing_more c.loop-cell.invariant c.oblong_sum.result (within c) (omega arith) c.oblong_sum.ensures
+    summing_more c.loop-cell.invariant c.oblong_sum.result (within) (omega arith) c.oblong_sum.ensures
 
 pub shape_of-work : goal.shape_of-work
 shape_of-work c = c.loop-cell.invariant.same

@@ -4,7 +4,6 @@ use native.Mathlib.Omega.{arith}
 use lib.ListN.{length}
 use Rattle.slopes.proofs.Rows.{summing_none, summing_more, summed}
 use Rattle.slopes.proofs.square_sums.Goals as goal
-use Rattle.slopes.proofs.square_sums.Goals.{After-square_sum}
 
 pub loop-cell-init : goal.loop-cell-init
 loop-cell-init c = summing_none _ _ _ _
@@ -23,14 +22,6 @@ square_sum-requires c =
       shaped = c.requires.shaped;
     }
 
--- the cell's place is in the work buffer
-within : (c : After-square_sum) → c.loop-cell.cell < length c.loop-cell.work
-within c =
-    let long = c.requires.to_in_bounds in
-    let test = c.loop-cell-test.true in
-    let same = c.loop-cell.invariant.same in
-    omega arith
-
 pub offset_bounds-work-cell : goal.offset_bounds-work-cell
 offset_bounds-work-cell c =
     let test = c.loop-cell-test.true in
@@ -39,7 +30,12 @@ offset_bounds-work-cell c =
     omega arith
 
 pub bounds-work-cell : goal.bounds-work-cell
-bounds-work-cell c = within c
+bounds-work-cell c =
+    let within : c.loop-cell.cell < length c.loop-cell.work = let long = c.requires.to_in_bounds in
+    let test = c.loop-cell-test.true in
+    let same = c.loop-cell.invariant.same in
+    omega arith in
+    within
 
 pub overflow_add-cell : goal.overflow_add-cell
 overflow_add-cell c = let test = c.loop-cell-test.true in omega arith
@@ -49,9 +45,13 @@ loop-cell-smaller c = let test = c.loop-cell-test.true in omega arith
 
 pub loop-cell-preserved : goal.loop-cell-preserved
 loop-cell-preserved c =
+    let within : c.loop-cell.cell < length c.loop-cell.work = let long = c.requires.to_in_bounds in
+    let test = c.loop-cell-test.true in
+    let same = c.loop-cell.invariant.same in
+    omega arith in
     let test = c.loop-cell-test.true in
     let last = c.requires.to_bound in
-    summing_more c.loop-cell.invariant c.square_sum.result (within c) (omega arith) c.square_sum.ensures
+    summing_more c.loop-cell.invariant c.square_sum.result (within) (omega arith) c.square_sum.ensures
 
 pub shape_of-work : goal.shape_of-work
 shape_of-work c = c.loop-cell.invariant.same
