@@ -8,7 +8,7 @@ use Rattle.watershed_walk.proofs.read_watersheds.Given as goal
 
 abbrev pub invariant-loop-c : goal.invariant-loop-c
 invariant-loop-c l =
-    (l.c ≤ l.n) × (length l.watersheds ≡ l.n) × FilledTo (λ c. start_of l.starts (get_or l.tail c 0 - (l.n + 1))) c l.watersheds
+    (l.c ≤ l.n) × (length l.watersheds ≡ l.n) × FilledTo (λ c. start_of l.starts (get_or l.tail c 0 - (l.n + 1))) l.c l.watersheds
 
 abbrev pub decreases-loop-c : goal.decreases-loop-c
 decreases-loop-c l = l.n - l.c
