@@ -221,7 +221,7 @@ pub have_again : (n a : ℕ) (l : List ℕ) → all_have n (a ∷ a ∷ l) ≡ a
 unfolding all_have
 have_again n a l = and_idem (eqb a n) (all_have n l)
 
--- 7 and 8 look at their lists by allHave alone
+-- 7 and 8 look at their lists by all_have alone
 same_lengths : (g : Grid) (i i' r r' : List ℕ) (later : Answer) → all_have (size g) i ≡ all_have (size g) i' →
     all_have (size g) r ≡ all_have (size g) r' → ask_lengths g i r later ≡ ask_lengths g i' r' later
 unfolding ask_lengths

@@ -1,5 +1,5 @@
 // "The reader goes digit by digit and hands its position on": a cursor by value. Each method takes it and returns the next cursor with
-// what it read: one byte, one digit, or a number of 4 digits. A byte that is no digit reads as 16, as in the definition `hexValue`.
+// what it read: one byte, one digit, or a number of 4 digits. A byte that is no digit reads as 16, as in the definition `hex_value`.
 #![tactic(auto)]
 
 ghost use Rattle.std.specs.Prelude.{◌≡◌, ◌+◌, ◌<◌, ◌≤◌, length};

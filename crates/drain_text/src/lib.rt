@@ -1,6 +1,6 @@
 // The program as one call from text to text: what `drain` reads to what it prints. The text is read into a local sheet; a no is printed as
 // its line, and an accepted sheet is drained into local sheets, which are printed as frames, or the no to 18 as its line. Each step's
-// promise is an equation on lists, and one after the other they are the definition `programText`.
+// promise is an equation on lists, and one after the other they are the definition `program_text`.
 #![tactic(auto)]
 
 ghost use Rattle.std.specs.Prelude.{◌≤◌, length};

@@ -1,15 +1,15 @@
 -- The laws of the filled sheet, in the words of the definitions, for elevations of the sheet's size:
---   filled-length filled-range            its length and range
---   filled-voids filled-data              its voids and data cells,
---   filled-outlet                         and its outlets are the input's
---   input-≤-filled filled-at-outlet       it is nowhere below the input, and equal to it at outlets
---   one-pass-more                         rows * columns passes are enough
---   filled-≤-highest filled-least         no path to an outlet has a lower highest elevation, and no drained sheet (a rival sheet) is lower
---   drained-filled                        what drains is its own filled sheet
+--   filled_length filled_range            its length and range
+--   filled_voids filled_data              its voids and data cells,
+--   filled_outlet                         and its outlets are the input's
+--   input_≤_filled filled_at_outlet       it is nowhere below the input, and equal to it at outlets
+--   one_pass_more                         rows * columns passes are enough
+--   filled_≤_highest filled_least         no path to an outlet has a lower highest elevation, and no drained sheet (a rival sheet) is lower
+--   drained_filled                        what drains is its own filled sheet
 -- and where no data cell is stranded, so that there are paths (question 18):
---   some-path lowest-path                 minimax: it is the least highest elevation of the paths to an outlet
---   never-rising-path lower-neighbour     from each data cell a path never rises on it
---   filled-drained filled-again           it is a drained sheet, so filling again changes nothing
+--   some_path lowest_path                 minimax: it is the least highest elevation of the paths to an outlet
+--   never_rising_path lower_neighbour     from each data cell a path never rises on it
+--   filled_drained filled_again           it is a drained sheet, so filling again changes nothing
 use mathlib.Core.Path.{◌≡◌, refl, sym, ◌∙◌, subst}
 use mathlib.Core.Logic.{⊎_elim}
 use mathlib.Core.Bool.{Bool, true, false}

@@ -4,7 +4,7 @@
 // none is a data cell. The queue lies in the second half of the work buffer (`queue`). Within the border neighbours lie at fixed offsets;
 // on it steps off the sheet find nothing. To ask at each cell which it is makes slower loops. So the first look takes cells within the
 // border and on it in runs of their own, and the queue's loop is chosen once for a sheet: with every side open no flat cell lies on the
-// border (proofs/Within `flat-within`), and nothing is asked; only with closed sides is each queued cell. Proved by the certificate of
+// border (proofs/Within `flat_within`), and nothing is asked; only with closed sides is each queued cell. Proved by the certificate of
 // `flow_laws`: each loop keeps the state `Searching`.
 #![tactic(auto)]
 
