@@ -24,14 +24,13 @@ zero_border-requires c =
     (key_read a.elevations.now a.cell c.key-k.result (omega arith) fits (c.key-k.ensures.value, (c.key-k.ensures.upper_bound, c.key-k.ensures.elevation)))
     (joining_data a.g a.elevations.now len a.half a.work.now a.cell a.tail on c.requires.joining
     c.if-work-cell-ne0.false) in
-    let the_all = (c.requires.elevations_len, (c.requires.g_bound, (omega arith, (c.requires.cell_bound, own)))) in
     record {
-      elevations_len = the_all.0;
-      g_bound = the_all.1.0;
-      g_in_bounds = the_all.1.1.0;
-      cell_bound = the_all.1.1.1.0;
-      cell_value = the_all.1.1.1.1.0;
-      k_nonzero = the_all.1.1.1.1.1;
+      elevations_len = c.requires.elevations_len;
+      g_bound = c.requires.g_bound;
+      g_in_bounds = omega arith;
+      cell_bound = c.requires.cell_bound;
+      cell_value = own.0;
+      k_nonzero = own.1;
     }
 
 pub returns-then-zero_border-ge8 : goal.returns-then-zero_border-ge8
