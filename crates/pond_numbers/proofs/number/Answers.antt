@@ -1,12 +1,12 @@
 -- The ponds are numbered whose lowest cell is one of the first c.
 use native.Mathlib.Omega.{arith}
-use mathlib.Core.Logic.{⊎_elim}
 use mathlib.Core.Path.{◌≡◌, refl, sym, ◌∙◌, ap}
 use Prim.Native.Nat.{ℕ, ◌-◌, ◌/◌}
 use lib.ListN.{length}
 use Rattle.grid.specs.Sheet.{size}
 use Rattle.pond_numbers.proofs.Numbering.{sizes_same, passed_by}
 use Rattle.pond_numbers.proofs.number.Goals as goal
+use Rattle.pond_numbers.proofs.number.Goals.{then-mark_at-eq1, else-mark_at-eq1}
 
 pub overflow_mul-n : goal.overflow_mul-n
 overflow_mul-n c = let f = c.requires.sizes.few in omega arith
@@ -48,17 +48,18 @@ loop-c-preserved c =
     let a = c.args in
     let t = c.loop-c-test.true in
     let m = c.mark_at.ensures in
-    ⊎_elim
-    (λ w. (omega arith, ap length w.5 ∙ w.2.kept.1.1.1.1.1.0 ∙ c.loop-c.invariant.1, rw w.5 (rw w.6 w.2.ensures)))
-    (λ w. (
-      omega arith,
-      ap length w.1 ∙ c.loop-c.invariant.1,
-      rw w.1
-          (rw w.2
-          (passed_by a.g a.elevations.now c.loop-c.work (length a.work.now / 2) c.loop-c.c c.loop-c.count (sizes_same c.requires.sizes c.loop-c.invariant.1)
-          (ap (λ (x : ℕ). x / 2) (sym c.loop-c.invariant.1)) (omega arith) c.loop-c.invariant.2 (λ q. w.0.left (m ∙ q)))),
-    ))
-    c.if-mark_at-eq1.branch
+    let long = c.if-mark_at-eq1.auto.work ∙ c.loop-c.invariant.1 in
+    elim c.if-mark_at-eq1.branch [
+      | then-mark_at-eq1 w ↦ (omega arith, long, rw w.work-is (rw w.count-is w.number_at-count.ensures))
+      | else-mark_at-eq1 w ↦ (
+        omega arith,
+        long,
+        rw w.work-is
+            (rw w.count-is
+            (passed_by a.g a.elevations.now c.loop-c.work (length a.work.now / 2) c.loop-c.c c.loop-c.count (sizes_same c.requires.sizes c.loop-c.invariant.1)
+            (ap (λ (x : ℕ). x / 2) (sym c.loop-c.invariant.1)) (omega arith) c.loop-c.invariant.2 (λ q. w.if-mark_at-eq1.false (m ∙ q)))),
+      )
+    ]
 
 pub shape_of-work : goal.shape_of-work
 shape_of-work c = c.loop-c.invariant.1
