@@ -35,7 +35,7 @@ module _ (g : Grid) (codes : List ℕ) (a l : ℕ) (t₀ t₁ : List ℕ) (R : R
     counted = sheet_counts g codes (drop (size g) t₀) t₁ R.long written t₂ a₀ a₁ r C
 
     ended : r ≡ size g
-    ended = counted.0 ∙ R.all_End
+    ended = counted.0 ∙ R.all_end
 
     pub counts_right : a₁ ≡ counts g codes
     counts_right = counted.1 ∙ cond_true (counts g codes) a₀ (eq-eqb r (size g) ended)
@@ -56,4 +56,4 @@ module _ (g : Grid) (codes : List ℕ) (a l : ℕ) (t₀ t₁ : List ℕ) (R : R
           let whole : t₂ ≡ receivers g codes ++ drop (size g) t₂ =
           sym (take-append-drop (size g) t₂) ∙ ap (λ (x : List ℕ). x ++ drop (size g) t₂) still in
           let w = sheet_labels g codes (drop (size g) t₂) t₂ R.long whole l₀ l₁ s L in
-          w.1 ∙ cond_true (labels g codes) l₀ (eq-eqb s (size g) (w.0 ∙ R.all_End))
+          w.1 ∙ cond_true (labels g codes) l₀ (eq-eqb s (size g) (w.0 ∙ R.all_end))
