@@ -86,7 +86,7 @@ begins g codes s k c long h =
 
 made : (g : Grid) (codes t : List ℕ) (k c : ℕ) → Arrived g codes t k (last_of (route g codes c) c) → FinishedFrom g codes t k c
 unfolding is_finished
-made g codes t k c a = record { is_finished_lem = eq-eqb (status_of t k) finished a.status; last = a.at }
+made g codes t k c a = record { is_finished = eq-eqb (status_of t k) finished a.status; last = a.at }
 
 -- right after the hand-in
 just : (g : Grid) (codes : List ℕ) (k c : ℕ) (s : List ℕ) (j : JustHandedIn g codes k c s) →

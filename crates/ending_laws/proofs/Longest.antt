@@ -67,8 +67,8 @@ from_end_of rest s k h =
     let e : length (rest ++ s) - (k + 1) ≡ length rest + (length s - (k + 1)) = omega arith in
     ap (λ (i : ℕ). get_or (rest ++ s) i 0) e ∙ get_or-append-add rest s (length s - (k + 1)) 0
 
-from_end : {l s : List ℕ} → EndsWith l s → (k : ℕ) → k < length s → from_end l k ≡ from_end s k
-from_end {s = s} (rest, e) k h = ap (λ (x : List ℕ). from_end x k) (sym e) ∙ from_end_of rest s k h
+from_end_lem : {l s : List ℕ} → EndsWith l s → (k : ℕ) → k < length s → from_end l k ≡ from_end s k
+from_end_lem {s = s} (rest, e) k h = ap (λ (x : List ℕ). from_end x k) (sym e) ∙ from_end_of rest s k h
 
 place_of_lem : (a n i : ℕ) → n ≤ a → i < n → a - (n - (i + 1) + 1) ≡ a - n + i
 place_of_lem a n i h l = omega arith
@@ -117,7 +117,7 @@ is_longest l m =
         let q = length-append f.0 other in
         let k = shared_length l m in
         let i : k < length other = omega arith in
-        absurd (shared_differ l m (omega arith) (from_end e k i ∙ sym (from_end f k i)))
+        absurd (shared_differ l m (omega arith) (from_end_lem e k i ∙ sym (from_end_lem f k i)))
 
 -- and it is so of the second list and the first
 pub turned : {l m s : List ℕ} → LongestShared l m s → LongestShared m l s
@@ -129,8 +129,8 @@ apart_none l m [] e f a = refl
 apart_none l m (x ∷ s) e f a =
     let one : 0 < 1 = omega arith in
     let some : 0 < length (x ∷ s) = omega arith in
-    let p = sym (from_end a.ends_first 0 one) ∙ from_end e 0 some in
-    let q = sym (from_end a.ends_second 0 one) ∙ from_end f 0 some in
+    let p = sym (from_end_lem a.ends_first 0 one) ∙ from_end_lem e 0 some in
+    let q = sym (from_end_lem a.ends_second 0 one) ∙ from_end_lem f 0 some in
     absurd (a.differ (p ∙ sym q))
 
 -- ---- the part of the first list

@@ -57,7 +57,7 @@ fn touch(n: usize, half: usize, v: u32, len: usize, m: usize, work: &mut [u32]) 
     requires v_bound { v < 65536 }
     requires room { Room n (back_of n half work.old) len }
     requires m_lt_n { m < n }
-    ensures work_unchanged { front_of n half work.new ≡ front_of n half work.old }
+    ensures front_unchanged { front_of n half work.new ≡ front_of n half work.old }
     ensures touched { Touched n (front_of n half work.old) (back_of n half work.old) (back_of n half work.new) v
         len m result }
 {
@@ -74,7 +74,7 @@ fn touch_any(n: usize, half: usize, v: u32, len: usize, m: usize, work: &mut [u3
     requires n_in_bounds { half + n ≤ length work.old }
     requires v_bound { v < 65536 }
     requires room { Room n (back_of n half work.old) len }
-    ensures work_unchanged { front_of n half work.new ≡ front_of n half work.old }
+    ensures front_unchanged { front_of n half work.new ≡ front_of n half work.old }
     ensures touched { Touched n (front_of n half work.old) (back_of n half work.old) (back_of n half work.new) v
         len m result }
 {
@@ -103,7 +103,7 @@ fn spread_inner(
     requires spread { Spread g (front_of (size g) half work.old) (back_of (size g) half work.old) k v head len x 0 }
     requires inner { Inner g (x / g.cols) (x % g.cols) }
     requires offsets { Offsets g.cols offsets.now }
-    ensures work_unchanged { front_of (size g) half work.new ≡ front_of (size g) half work.old }
+    ensures front_unchanged { front_of (size g) half work.new ≡ front_of (size g) half work.old }
     ensures during { During g (front_of (size g) half work.old) (back_of (size g) half work.new) k v (head + 1) result }
 {
     let n = g.rows * g.cols;
@@ -134,7 +134,7 @@ fn spread_border(
     requires v_bound { v < 65536 }
     requires spread { Spread g (front_of (size g) half work.old) (back_of (size g) half work.old) k v head len x 0 }
     requires x_bound { x < size g }
-    ensures work_unchanged { front_of (size g) half work.new ≡ front_of (size g) half work.old }
+    ensures front_unchanged { front_of (size g) half work.new ≡ front_of (size g) half work.old }
     ensures during { During g (front_of (size g) half work.old) (back_of (size g) half work.new) k v (head + 1) result }
 {
     let n = g.rows * g.cols;
@@ -166,7 +166,7 @@ fn spread(
     requires head_lt_len { head < len }
     requires during { During g (front_of (size g) half work.old) (back_of (size g) half work.old) k v head len }
     requires offsets { Offsets g.cols offsets.now }
-    ensures work_unchanged { front_of (size g) half work.new ≡ front_of (size g) half work.old }
+    ensures front_unchanged { front_of (size g) half work.new ≡ front_of (size g) half work.old }
     ensures during_2 { During g (front_of (size g) half work.old) (back_of (size g) half work.new) k v (head + 1) result }
 {
     let cols = g.cols;
@@ -194,7 +194,7 @@ fn drain(
     requires v_bound { v < 65536 }
     requires during { During g (front_of (size g) half work.old) (back_of (size g) half work.old) k v start len }
     requires offsets { Offsets g.cols offsets.now }
-    ensures work_unchanged { front_of (size g) half work.new ≡ front_of (size g) half work.old }
+    ensures front_unchanged { front_of (size g) half work.new ≡ front_of (size g) half work.old }
     ensures during_2 { During g (front_of (size g) half work.old) (back_of (size g) half work.new) k v result result }
 {
     let mut head = start;
@@ -320,7 +320,7 @@ fn visit(
     requires sorted { Sorted (size g) (front_of (size g) half work.old) }
     requires between { Between g (front_of (size g) half work.old) (back_of (size g) half work.old) k len }
     requires offsets { Offsets g.cols offsets.now }
-    ensures work_unchanged { front_of (size g) half work.new ≡ front_of (size g) half work.old }
+    ensures front_unchanged { front_of (size g) half work.new ≡ front_of (size g) half work.old }
     ensures between_2 { Between g (front_of (size g) half work.old) (back_of (size g) half work.new) (k + 1) result }
 {
     let n = g.rows * g.cols;
@@ -347,7 +347,7 @@ pub fn flood(g: Grid, half: usize, work: &mut [u32])
     requires g_in_bounds { half + size g + size g ≤ length work.old }
     requires sorted { Sorted (size g) (front_of (size g) half work.old) }
     requires by_index { (c : ℕ) → c < size g → get_or (back_of (size g) half work.old) (size g + c) 0 ≡ 0 }
-    ensures work_unchanged { front_of (size g) half work.new ≡ front_of (size g) half work.old }
+    ensures front_unchanged { front_of (size g) half work.new ≡ front_of (size g) half work.old }
     ensures by_index_2 { (len : ℕ) × Between g (front_of (size g) half work.old) (back_of (size g) half work.new) (size g)
         len }
 {

@@ -113,9 +113,9 @@ summed_all g e work cell p sum S h = let a = S.eight in let q : p ≡ 8 = omega 
 
 -- what `is_below` answers is what the definition asks at the position p
 module _ (g : Grid) (e : List ℤ) (len : length e ≡ size g) (work : List ℕ) (cell : ℕ) (on : cell < size g) (k word : ℕ)
-    (own : at e cell ≡ level_of k) (some : 0 < k) (is_IsWord : word ≡ get_or work cell 0) (p m : ℕ) (there : m ≡ neighbour g cell p) where
+    (own : at e cell ≡ level_of k) (some : 0 < k) (is_word : word ≡ get_or work cell 0) (p m : ℕ) (there : m ≡ neighbour g cell p) where
   own_level : get_or (levels_in g work) cell 0 ≡ word_level word
-  own_level = at_table (size g) (level_in (size g) work) cell 0 on ∙ ap word_level (get_or-take (size g) work cell 0 on ∙ sym is_IsWord)
+  own_level = at_table (size g) (level_in (size g) work) cell 0 on ∙ ap word_level (get_or-take (size g) work cell 0 on ∙ sym is_word)
 
   near_level : neighbour g cell p < size g → get_or (levels_in g work) (neighbour g cell p) 0 ≡ word_level (get_or work m 0)
   near_level h =

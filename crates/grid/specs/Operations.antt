@@ -13,7 +13,7 @@ use Rattle.grid.specs.Promises.{HandInPromise, RunPromise, CollectPromise}
 
 -- ---- lists of operations
 
--- `work` is the length of the work buffer that a run or a hand_in lends. The turns of a run may be any number, above 65,535 too
+-- `work` is the length of the work buffer that a run or a hand-in lends. The turns of a run may be any number, above 65,535 too
 pub data Operation : Type 0 where
   run : (work turns : ℕ) → Operation
   hand_in : (work crew cell : ℕ) → Operation
@@ -73,7 +73,7 @@ module _ (g : Grid) (codes : List ℕ) where
 
   -- crew k's trace is finished, at the last cell of the route from c
   pub record FinishedFrom (s : List ℕ) (k c : ℕ) : Type 0 where
-    pub is_finished_lem : is_finished s k ≡ true
+    pub is_finished : is_finished s k ≡ true
     pub last : stands_on s k ≡ last_of (route g codes c) c
 
   -- the trace that crew k has in the state s, handed in at c, stands finished after the operations l: crew k has handed in no other by then
@@ -93,7 +93,7 @@ pub record NoTraces (s : List ℕ) : Type 0 where
   pub long : length s ≡ 66
   pub none : (k : ℕ) → k < 32 → has_trace s k ≡ false
 
--- s is the state right after crew k's accepted hand_in of the cell c, anywhere in a list of operations; "begins with no trace handed in"
+-- s is the state right after crew k's accepted hand-in of the cell c, anywhere in a list of operations; "begins with no trace handed in"
 -- is one of its beginnings, and what other traces the list begins with makes no difference here
 pub record JustHandedIn (g : Grid) (codes : List ℕ) (k c : ℕ) (s : List ℕ) : Type 0 where
   pub beginning : List ℕ
@@ -132,7 +132,7 @@ RefusedDoesNothing =
     (g : Grid) (codes s : List ℕ) (x : Operation) → is_accepted (answer_to g codes s x) ≡ false →
     (after g codes s x ≡ s) × (turns_in g codes s x ≡ 0)
 
--- "A trace whose route has r cells is finished within 32 × r turns of being handed in": where the operations after the hand_in take so many
+-- "A trace whose route has r cells is finished within 32 × r turns of being handed in": where the operations after the hand-in take so many
 -- turns, it stands finished after them, or one of them has collected it
 abbrev pub FinishesInTime : Type 0
 FinishesInTime =

@@ -38,7 +38,7 @@ pub record SameButCodes (g : Grid) (width height : ℕ) (e : List ℤ) : Type 0 
   pub drained : (f : List ℤ) → DrainedSheet (reshaped g width height) e f → DrainedSheet g e f
   pub drained_back : (f : List ℤ) → DrainedSheet g e f → DrainedSheet (reshaped g width height) e f
   pub ponds : P.ponds (reshaped g width height) e ≡ P.ponds g e
-  pub pond_count_lem : P.pond_count (reshaped g width height) e ≡ P.pond_count g e
+  pub pond_count : P.pond_count (reshaped g width height) e ≡ P.pond_count g e
   pub flats : levels (reshaped g width height) e ≡ levels g e
   pub flat_sums : (l : List ℕ) (c : ℕ) → flat_sum (reshaped g width height) e l c ≡ flat_sum g e l c
   pub ten : first_unlevelled (reshaped g width height) e ≡ first_unlevelled g e

@@ -238,10 +238,10 @@ eastward_codes = directions eastward (filled eastward cut)
 
 -- the code of the middle cell of 3 by 3, at elevation 0, with cells of a width and a height, where the others lie these numbers below it:
 -- east, north, north-east; the rest lies level
-code_amid : (width height east north northEast : ℕ) → ℕ
-code_amid width height east north northEast =
+code_amid : (width height east north north_east : ℕ) → ℕ
+code_amid width height east north north_east =
     get_or (directions (shaped_grid 3 3 0 width height)
-    (pos 0 ∷ (pos 0 -ℤ pos north) ∷ (pos 0 -ℤ pos northEast) ∷ pos 0 ∷ pos 0 ∷ (pos 0 -ℤ pos east) ∷ pos 0 ∷ pos 0 ∷ pos 0 ∷ [])) 4 0
+    (pos 0 ∷ (pos 0 -ℤ pos north) ∷ (pos 0 -ℤ pos north_east) ∷ pos 0 ∷ pos 0 ∷ (pos 0 -ℤ pos east) ∷ pos 0 ∷ pos 0 ∷ pos 0 ∷ [])) 4 0
 
 shape_in : (sides width height room : ℕ) → List ℕ
 unfolding number_and_place cut
@@ -269,7 +269,7 @@ collected_in s crew =
     let c : Collected = collected s crew in
     c.number ∷ c.place ∷ c.status ∷ c.cell ∷ []
 
--- for a hand_in, and for a run, on the streams
+-- for a hand-in, and for a run, on the streams
 hand_in_answer : ℕ → ℕ → ℕ → List ℕ → List ℕ
 unfolding streams number_and_place
 hand_in_answer work crew cell s = number_and_place (hand_in_check (grid_of 1 4) streams work crew cell s)

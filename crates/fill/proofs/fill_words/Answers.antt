@@ -59,8 +59,8 @@ returns-then-all_drain c =
     let none = full_reach a.g sheet full drain.0 (sheet_length (size a.g) a.work.now) in
     record {
       value = sym none;
-      words = λ _. flooded_words a.g _ a.work.now c.mark_voids-voids.new.work R c.flood.new.work c.flood.ensures.work_unchanged c.flood.ensures.by_index_2 none;
-      marked = marks_stay a.g _ a.work.now c.mark_voids-voids.new.work R c.flood.new.work c.flood.ensures.work_unchanged c.flood.ensures.by_index_2;
+      words = λ _. flooded_words a.g _ a.work.now c.mark_voids-voids.new.work R c.flood.new.work c.flood.ensures.front_unchanged c.flood.ensures.by_index_2 none;
+      marked = marks_stay a.g _ a.work.now c.mark_voids-voids.new.work R c.flood.new.work c.flood.ensures.front_unchanged c.flood.ensures.by_index_2;
     }
 
 pub returns : goal.returns
@@ -71,9 +71,9 @@ returns c =
     c.requires.g_in_bounds c.sort.auto.work c.sort.ensures.sorted c.sort.ensures.by_index c.mark_voids-voids.ensures.marked c.mark_voids-voids.ensures.by_index in
     let first =
     c.first_unreached.ensures
-    ∙ unreached_first a.g _ a.work.now c.mark_voids-voids.new.work R c.flood.new.work c.flood.ensures.work_unchanged c.flood.ensures.by_index_2 in
+    ∙ unreached_first a.g _ a.work.now c.mark_voids-voids.new.work R c.flood.new.work c.flood.ensures.front_unchanged c.flood.ensures.by_index_2 in
     record {
       value = first;
-      words = λ q. flooded_words a.g _ a.work.now c.mark_voids-voids.new.work R c.flood.new.work c.flood.ensures.work_unchanged c.flood.ensures.by_index_2 (sym first ∙ q);
-      marked = marks_stay a.g _ a.work.now c.mark_voids-voids.new.work R c.flood.new.work c.flood.ensures.work_unchanged c.flood.ensures.by_index_2;
+      words = λ q. flooded_words a.g _ a.work.now c.mark_voids-voids.new.work R c.flood.new.work c.flood.ensures.front_unchanged c.flood.ensures.by_index_2 (sym first ∙ q);
+      marked = marks_stay a.g _ a.work.now c.mark_voids-voids.new.work R c.flood.new.work c.flood.ensures.front_unchanged c.flood.ensures.by_index_2;
     }

@@ -32,7 +32,7 @@ loop-head-smaller c =
 
 pub loop-head-preserved : goal.loop-head-preserved
 loop-head-preserved c =
-    (c.spread-tail.auto.work ∙ c.loop-head.invariant.0, c.spread-tail.ensures.work_unchanged ∙ c.loop-head.invariant.1, rw c.loop-head.invariant.1 at c.spread-tail.ensures.during_2)
+    (c.spread-tail.auto.work ∙ c.loop-head.invariant.0, c.spread-tail.ensures.front_unchanged ∙ c.loop-head.invariant.1, rw c.loop-head.invariant.1 at c.spread-tail.ensures.during_2)
 
 pub shape_of-work : goal.shape_of-work
 shape_of-work c = c.loop-head.invariant.0
@@ -42,6 +42,6 @@ returns c =
     let o = c.loop-head.invariant.2.flood.order in
     let e : c.loop-head.head ≡ c.loop-head.tail = omega arith in
     record {
-      work_unchanged = c.loop-head.invariant.1;
+      front_unchanged = c.loop-head.invariant.1;
       during_2 = rw e at c.loop-head.invariant.2;
     }

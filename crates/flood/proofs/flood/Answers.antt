@@ -37,7 +37,7 @@ loop-k-smaller c = omega arith
 
 pub loop-k-preserved : goal.loop-k-preserved
 loop-k-preserved c =
-    (omega arith, c.visit-len.auto.work ∙ c.loop-k.invariant.1, c.visit-len.ensures.work_unchanged ∙ c.loop-k.invariant.2, rw c.loop-k.invariant.2 at c.visit-len.ensures.between_2)
+    (omega arith, c.visit-len.auto.work ∙ c.loop-k.invariant.1, c.visit-len.ensures.front_unchanged ∙ c.loop-k.invariant.2, rw c.loop-k.invariant.2 at c.visit-len.ensures.between_2)
 
 pub shape_of-work : goal.shape_of-work
 shape_of-work c = c.loop-k.invariant.1
@@ -47,6 +47,6 @@ returns c =
     let a = c.args in
     let e : c.loop-k.k ≡ size a.g = omega arith in
     record {
-      work_unchanged = c.loop-k.invariant.2;
+      front_unchanged = c.loop-k.invariant.2;
       by_index_2 = (c.loop-k.len, rw e at c.loop-k.invariant.3);
     }

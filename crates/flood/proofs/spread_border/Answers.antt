@@ -42,7 +42,7 @@ loop-p-preserved c =
     let e = c.neighbour-m.ensures in (
       omega arith,
       c.touch_any-tail.auto.work ∙ c.loop-p.invariant.1,
-      c.touch_any-tail.ensures.work_unchanged ∙ c.loop-p.invariant.2,
+      c.touch_any-tail.ensures.front_unchanged ∙ c.loop-p.invariant.2,
       spread_more a.g _ _ a.k a.v a.head c.loop-p.tail _ c.loop-p.p c.loop-p.invariant.3 (omega arith) e (rw c.loop-p.invariant.2 at c.touch_any-tail.ensures.touched),
     )
 
@@ -53,6 +53,6 @@ pub returns : goal.returns
 returns c =
     let a = c.args in
     record {
-      work_unchanged = c.loop-p.invariant.2;
+      front_unchanged = c.loop-p.invariant.2;
       during = spread_end a.g _ _ a.k a.v a.head c.loop-p.tail _ c.loop-p.p c.loop-p.invariant.3 c.loop-p-test.false;
     }

@@ -44,7 +44,7 @@ loop-p-preserved c =
     let e = c.beside-m.ensures.value in (
       omega arith,
       c.touch-tail.auto.work ∙ c.loop-p.invariant.1,
-      c.touch-tail.ensures.work_unchanged ∙ c.loop-p.invariant.2,
+      c.touch-tail.ensures.front_unchanged ∙ c.loop-p.invariant.2,
       spread_more a.g _ _ a.k a.v a.head c.loop-p.tail _ c.loop-p.p c.loop-p.invariant.3 (omega arith) e (rw c.loop-p.invariant.2 at c.touch-tail.ensures.touched),
     )
 
@@ -55,6 +55,6 @@ pub returns : goal.returns
 returns c =
     let a = c.args in
     record {
-      work_unchanged = c.loop-p.invariant.2;
+      front_unchanged = c.loop-p.invariant.2;
       during = spread_end a.g _ _ a.k a.v a.head c.loop-p.tail _ c.loop-p.p c.loop-p.invariant.3 c.loop-p-test.false;
     }

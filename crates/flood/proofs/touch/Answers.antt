@@ -10,7 +10,7 @@ use Rattle.flood.proofs.touch.Goals as goal
 pub returns-then-not-wanted : goal.returns-then-not-wanted
 returns-then-not-wanted c =
     record {
-      work_unchanged = refl;
+      front_unchanged = refl;
       touched = inl (refl, refl, c.wanted.ensures.fact (c.if-not-wanted.true));
     }
 
@@ -38,6 +38,6 @@ returns c =
     let the_all = touch_yes a.n a.half a.v a.len a.m a.work.now c.reach.new.work c.requires.n_bound_2 c.requires.n_in_bounds room
     c.reach.ensures.value c.reach.ensures.work_after W in
     record {
-      work_unchanged = the_all.0;
+      front_unchanged = the_all.0;
       touched = the_all.1;
     }

@@ -9,7 +9,7 @@ use Rattle.flood.proofs.touch_any.Goals as goal
 pub returns-then-m-n : goal.returns-then-m-n
 returns-then-m-n c =
     record {
-      work_unchanged = refl;
+      front_unchanged = refl;
       touched = inl (refl, refl, λ t. let h = t.0 in let z : ⊥ = omega arith in absurd z);
     }
 

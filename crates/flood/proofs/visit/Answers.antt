@@ -36,7 +36,7 @@ pub returns-then-v-eq0 : goal.returns-then-v-eq0
 returns-then-v-eq0 c =
     let a = c.args in
     record {
-      work_unchanged = refl;
+      front_unchanged = refl;
       between_2 = visit_void a.g a.half a.k a.len a.work.now c.requires.g_bound_2 c.requires.g_in_bounds c.requires.k_bound
           c.requires.sorted c.requires.between c.if-v-eq0.true;
     }
@@ -45,7 +45,7 @@ pub returns-then-v-ge65536 : goal.returns-then-v-ge65536
 returns-then-v-ge65536 c =
     let a = c.args in
     record {
-      work_unchanged = refl;
+      front_unchanged = refl;
       between_2 = visit_reached a.g a.half a.k a.len a.work.now c.requires.g_bound_2 c.requires.g_in_bounds c.requires.k_bound
           c.requires.sorted c.requires.between c.if-v-ge65536.true;
     }
@@ -67,7 +67,7 @@ pub returns-then-not-is_opening : goal.returns-then-not-is_opening
 returns-then-not-is_opening c =
     let a = c.args in
     record {
-      work_unchanged = refl;
+      front_unchanged = refl;
       between_2 = visit_closed a.g a.half a.k a.len a.work.now c.requires.g_bound_2 c.requires.g_in_bounds c.requires.k_bound
           c.requires.sorted c.requires.between (c.is_opening.ensures.fact (c.if-not-is_opening.true));
     }
@@ -116,8 +116,8 @@ returns c =
     let opened = c.is_opening.ensures.opening (c.if-not-is_opening.false) in
     let the_all = visit_end a.g a.half a.k a.len a.work.now c.requires.g_bound_2 c.requires.g_in_bounds c.requires.k_bound
     c.requires.sorted c.requires.between some low opened c.reach-more.new.work c.reach-more.ensures.work_after _ _ _
-    c.drain.ensures.work_unchanged c.drain.ensures.during_2 in
+    c.drain.ensures.front_unchanged c.drain.ensures.during_2 in
     record {
-      work_unchanged = the_all.0;
+      front_unchanged = the_all.0;
       between_2 = the_all.1;
     }
