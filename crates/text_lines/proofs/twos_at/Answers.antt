@@ -17,7 +17,7 @@ pub returns : goal.returns
 returns c =
     let s = c.args in
     let x = get_or s.elevations.now s.c (pos 0) in
-    let h = sfits_of c.twos-arg-1.given in
+    let h = sfits_of {w = w16} c.twos-arg-1.given in
     let e : to_z w16 (of_z w16 x) ≡ x = to_z-of_z h in
     let q = at_any s.elevations.now s.c (pos 0) (omega arith) in
     let b : IsElevation x = (word_void x h.sfits, word_top x h.sfits) in
