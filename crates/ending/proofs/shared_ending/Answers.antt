@@ -14,7 +14,7 @@ returns-then-answer-ne0 c =
     let l = s.first.now in
     record {
       shared = refused_part s.g l s.second.now c.check_lists-answer.result c.check_lists-answer.ensures c.if-answer-ne0.true _ (no_part l);
-      itself = record { block = refl; byte = part_byte l (length l) s.first.ptr.1 (omega arith) };
+      itself = record { block = refl; byte = part_byte l (length l) s.first.ref_ptr.1 (omega arith) };
     }
 
 pub returns : goal.returns
@@ -24,5 +24,5 @@ returns c =
     let part = part_to_end l (length l - c.shared_length-k.result) ∙ part_is l s.second.now c.shared_length-k.result c.shared_length-k.ensures.value in
     record {
       shared = accepted_part s.g l s.second.now c.check_lists-answer.result c.check_lists-answer.ensures c.if-answer-ne0.false _ part;
-      itself = record { block = refl; byte = part_byte l (length l - c.shared_length-k.result) s.first.ptr.1 (omega arith) };
+      itself = record { block = refl; byte = part_byte l (length l - c.shared_length-k.result) s.first.ref_ptr.1 (omega arith) };
     }
