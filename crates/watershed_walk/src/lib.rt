@@ -49,7 +49,7 @@ fn cut_starts(n: usize, starts: &[u32], tail: &mut [u32])
 fn start_of(n: usize, starts: &[u32], found: u32) -> u32
     requires n_bound { n < 2 ^ 24 }
     requires starts_len { length starts.now ≡ n }
-    requires found_bound { n + 1 ≤ found }
+    requires found_above { n + 1 ≤ found }
     requires found_bound { found ≤ n + 1 + n }
     ensures { result ≡ start_of starts.now (found - (n + 1)) }
 {

@@ -26,7 +26,7 @@ start_of-requires c =
     record {
       n_bound = c.requires.n_bound;
       starts_len = c.requires.starts_len;
-      found_bound = r.0;
+      found_above = r.0;
       found_bound = r.1;
     }
 
