@@ -1,6 +1,5 @@
 -- From the queue's first to its end.
 use native.Mathlib.Omega.{arith}
-use Prim.Native.Nat.{◌-◌}
 use mathlib.Core.Path.{◌≡◌, refl, ◌∙◌}
 use Rattle.flood_laws.proofs.Steps.{during_most}
 use Rattle.flood.proofs.drain.Goals as goal

@@ -1,6 +1,5 @@
 -- Visit by visit through the order.
 use native.Mathlib.Omega.{arith}
-use Prim.Native.Nat.{◌-◌}
 use mathlib.Core.Path.{◌≡◌, refl, ◌∙◌}
 use Rattle.grid.specs.Sheet.{size}
 use Rattle.flood_laws.proofs.Steps.{between_none}

@@ -1,6 +1,5 @@
 -- The eight steps one after the other: none of those before p opens.
 use native.Mathlib.Omega.{arith}
-use Prim.Native.Nat.{◌-◌}
 use mathlib.Core.Path.{sym}
 use mathlib.Core.Bool.{true≢false}
 use Rattle.grid.specs.Sheet.{size}

@@ -5,11 +5,6 @@ use Prim.Native.Nat.{◌+◌}
 use lib.ListN.{get_or}
 use Rattle.grid_laws.proofs.Neighbours.{cols_positive}
 use Rattle.flood.proofs.Halves.{first_on, first_less, spread_start}
-use Rattle.flood.proofs.spread.Reads as reads
-use Rattle.flood.proofs.spread.Lts as lts
-use Rattle.cells.proofs.is_inner.Reads as is-inner-reads
-use Rattle.flood.proofs.spread_border.Reads as spread-border-reads
-use Rattle.flood.proofs.spread_inner.Reads as spread-inner-reads
 use Rattle.flood.proofs.spread.Goals as goal
 
 pub overflow_add-x : goal.overflow_add-x

@@ -1,6 +1,5 @@
 -- The eight steps one after the other: what stands at those before p is settled.
 use native.Mathlib.Omega.{arith}
-use Prim.Native.Nat.{◌-◌}
 use mathlib.Core.Path.{refl, ◌∙◌}
 use Rattle.flood_laws.proofs.Steps.{spread_more, spread_end, during_room}
 use Rattle.flood.proofs.spread_inner.Goals as goal

@@ -1,10 +1,6 @@
 use mathlib.Core.Logic.{inl}
 use mathlib.Core.Path.{refl}
 use Rattle.flood.proofs.Halves.{wanted_low, touch_yes}
-use Rattle.flood.proofs.touch.Reads as reads
-use Rattle.flood.proofs.touch.Lts as lts
-use Rattle.flood.proofs.reach.Reads as reach-reads
-use Rattle.flood.proofs.wanted.Reads as wanted-reads
 use Rattle.flood.proofs.touch.Goals as goal
 
 pub returns-then-not-wanted : goal.returns-then-not-wanted

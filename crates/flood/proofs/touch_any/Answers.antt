@@ -1,9 +1,6 @@
 use native.Mathlib.Omega.{arith}
 use mathlib.Core.Logic.{inl}
 use mathlib.Core.Path.{refl}
-use Rattle.flood.proofs.touch_any.Reads as reads
-use Rattle.flood.proofs.touch_any.Lts as lts
-use Rattle.flood.proofs.touch.Reads as Touch-reads
 use Rattle.flood.proofs.touch_any.Goals as goal
 
 pub returns-then-m-n : goal.returns-then-m-n

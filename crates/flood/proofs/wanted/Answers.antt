@@ -1,7 +1,5 @@
 use native.Mathlib.Omega.{arith}
 use Rattle.flood.proofs.Halves.{void_there, too_high, is_wanted}
-use Rattle.flood.proofs.wanted.Reads as reads
-use Rattle.flood.proofs.wanted.Lts as lts
 use Rattle.flood.proofs.wanted.Goals as goal
 
 pub returns-then-word-eq0 : goal.returns-then-word-eq0

@@ -1,4 +1,3 @@
-use Prim.Native.Nat.{◌-◌}
 use native.Mathlib.Omega.{arith}
 use Rattle.flow_laws.proofs.Words.{data_not_void}
 use Rattle.flow.proofs.Flats.{summed_none, summed_more, summed_all, below_is}

@@ -1,6 +1,6 @@
 -- The eight steps one after the other: what stands at those before p is settled.
 use mathlib.Core.Path.{refl, ◌∙◌}
-use Prim.Native.Nat.{◌-◌, ◌<◌}
+use Prim.Native.Nat.{◌<◌}
 use native.Mathlib.Nat.{div-le_self, mod-le}
 use native.Mathlib.Omega.{arith}
 use Rattle.grid.specs.Sheet.{size}

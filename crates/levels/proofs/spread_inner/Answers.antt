@@ -1,7 +1,6 @@
 -- The eight steps one after the other: what stands at those before p is settled.
 use mathlib.Core.Path.{refl, ◌∙◌}
 use mathlib.Core.Logic.{inl}
-use Prim.Native.Nat.{◌-◌}
 use native.Mathlib.Omega.{arith}
 use Rattle.levels.proofs.Spreading.{spreading_room, spreading_more, spreading_end}
 use Rattle.levels.proofs.spread_inner.Goals as goal

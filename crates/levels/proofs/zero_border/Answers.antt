@@ -1,5 +1,4 @@
 -- The eight steps one after the other, as far as p.
-use Prim.Native.Nat.{◌-◌}
 use native.Mathlib.Omega.{arith}
 use Rattle.levels.proofs.Keyed.{looked_none, looked_more}
 use Rattle.levels.proofs.zero_border.Goals as goal

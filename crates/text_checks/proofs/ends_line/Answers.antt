@@ -1,8 +1,6 @@
 -- `text_checks::ends_line`: the end of the header, within it, and past it.
 use mathlib.Core.Path.{sym}
 use Rattle.text_laws.proofs.Ends.{header_ends, in_header, in_lines}
-use Rattle.text_checks.proofs.ends_line.Reads as reads
-use Rattle.text_checks.proofs.ends_line.Lts as lts
 use Rattle.text_checks.proofs.ends_line.Goals as goal
 
 pub returns-then-i-eq8 : goal.returns-then-i-eq8

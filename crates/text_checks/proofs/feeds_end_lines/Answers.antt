@@ -1,13 +1,8 @@
 -- `text_checks::feeds_end_lines`: every byte before the place is right.
 use mathlib.Core.Path.{sym, ◌∙◌}
-use Prim.Native.Nat.{◌-◌}
 use native.Mathlib.Omega.{arith}
 use borrow.Author.Count.{below_none, below_more}
 use Rattle.text_checks.proofs.Bytes.{all_placed, one_misplaced}
-use Rattle.text_checks.proofs.feeds_end_lines.Reads as reads
-use Rattle.text_checks.proofs.feeds_end_lines.Lts as lts
-use Rattle.cursor.proofs.Cursor.byte.Reads as byte-Reads
-use Rattle.text_checks.proofs.is_placed.Reads as is-placed-reads
 use Rattle.text_checks.proofs.feeds_end_lines.Goals as goal
 
 pub loop-next-init : goal.loop-next-init

@@ -2,10 +2,6 @@
 use Prim.Native.Nat.{◌-◌, ◌≤◌}
 use lib.ListN.{length}
 use Rattle.text_checks.proofs.Bytes.{PlacedTo}
-use Rattle.text_checks.proofs.feeds_end_lines.Reads as reads
-use Rattle.text_checks.proofs.feeds_end_lines.Lts as lts
-use Rattle.cursor.proofs.Cursor.byte.Reads as byte-Reads
-use Rattle.text_checks.proofs.is_placed.Reads as is-placed-reads
 use Rattle.text_checks.proofs.feeds_end_lines.Given as goal
 
 abbrev pub invariant-loop-next : goal.invariant-loop-next

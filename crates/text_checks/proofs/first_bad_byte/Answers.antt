@@ -1,13 +1,8 @@
 -- `text_checks::first_bad_byte`: every byte before the place is a digit or a line feed.
 use mathlib.Core.Path.{sym, ◌∙◌}
-use Prim.Native.Nat.{◌-◌}
 use native.Mathlib.Omega.{arith}
 use borrow.Author.Count.{below_none, below_more}
 use Rattle.text_checks.proofs.Bytes.{bad_byte, no_bad_byte}
-use Rattle.text_checks.proofs.first_bad_byte.Reads as reads
-use Rattle.text_checks.proofs.first_bad_byte.Lts as lts
-use Rattle.cursor.proofs.Cursor.byte.Reads as byte-Reads
-use Rattle.text_checks.proofs.is_text_byte.Reads as is-text-byte-reads
 use Rattle.text_checks.proofs.first_bad_byte.Goals as goal
 
 pub loop-next-init : goal.loop-next-init

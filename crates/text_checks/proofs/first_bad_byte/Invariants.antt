@@ -2,10 +2,6 @@
 use Prim.Native.Nat.{◌-◌, ◌≤◌}
 use lib.ListN.{length}
 use Rattle.text_checks.proofs.Bytes.{FineTo}
-use Rattle.text_checks.proofs.first_bad_byte.Reads as reads
-use Rattle.text_checks.proofs.first_bad_byte.Lts as lts
-use Rattle.cursor.proofs.Cursor.byte.Reads as byte-Reads
-use Rattle.text_checks.proofs.is_text_byte.Reads as is-text-byte-reads
 use Rattle.text_checks.proofs.first_bad_byte.Given as goal
 
 abbrev pub invariant-loop-next : goal.invariant-loop-next

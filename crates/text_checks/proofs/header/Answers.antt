@@ -2,9 +2,6 @@
 use mathlib.Core.Path.{ap, ◌∙◌}
 use Rattle.grid.specs.Frames.{number4}
 use Rattle.text_checks.proofs.Bytes.{header_grid}
-use Rattle.text_checks.proofs.header.Reads as reads
-use Rattle.text_checks.proofs.header.Lts as lts
-use Rattle.cursor.proofs.Cursor.number.Reads as number-reads
 use Rattle.text_checks.proofs.header.Goals as goal
 
 pub returns : goal.returns

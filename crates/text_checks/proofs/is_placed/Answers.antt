@@ -2,9 +2,6 @@
 use mathlib.Core.Path.{sym, ap, ◌∙◌}
 use mathlib.Core.Bool.{not}
 use Rattle.text_checks.proofs.Bytes.{placed_feed, placed_digit}
-use Rattle.text_checks.proofs.is_placed.Reads as reads
-use Rattle.text_checks.proofs.is_placed.Lts as lts
-use Rattle.text_checks.proofs.ends_line.Reads as ends-line-reads
 use Rattle.text_checks.proofs.is_placed.Goals as goal
 
 pub returns-then-b-eq10 : goal.returns-then-b-eq10

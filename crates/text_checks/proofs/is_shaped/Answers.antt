@@ -3,10 +3,6 @@ use mathlib.Core.Path.{sym, ◌∙◌}
 use native.Mathlib.Omega.{arith}
 use Rattle.text_checks.proofs.Bytes.{too_short, wrong_length, right_length}
 use Rattle.text_laws.proofs.Asked.{announced_small}
-use Rattle.text_checks.proofs.is_shaped.Reads as reads
-use Rattle.text_checks.proofs.is_shaped.Lts as lts
-use Rattle.text_checks.proofs.feeds_end_lines.Reads as feeds-end-lines-reads
-use Rattle.text_checks.proofs.header.Reads as header-reads
 use Rattle.text_checks.proofs.is_shaped.Goals as goal
 
 pub returns-then-text-lt9 : goal.returns-then-text-lt9

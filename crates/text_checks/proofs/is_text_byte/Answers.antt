@@ -1,9 +1,6 @@
 -- `text_checks::is_text_byte`: a digit, or else the line feed.
 use mathlib.Core.Path.{sym}
 use Rattle.text_checks.proofs.Bytes.{digit_fits, no_digit_fits}
-use Rattle.text_checks.proofs.is_text_byte.Reads as reads
-use Rattle.text_checks.proofs.is_text_byte.Lts as lts
-use Rattle.cursor.proofs.hex_value.Reads as hex-value-reads
 use Rattle.text_checks.proofs.is_text_byte.Goals as goal
 
 pub returns-then-hex_value-lt16 : goal.returns-then-hex_value-lt16

@@ -1,14 +1,8 @@
 -- `text_lines::codes_line`: q cells of the line are stored, and then its line feed.
 use mathlib.Core.Path.{◌≡◌}
-use Prim.Native.Nat.{◌-◌}
 use native.Mathlib.Omega.{arith}
 use lib.ListN.{length-set}
-use Rattle.grid.specs.Sheet.{at}
 use Rattle.text_lines.proofs.Lines.{cells_none, cells_more, cells_end}
-use Rattle.text_lines.proofs.codes_line.Reads as reads
-use Rattle.text_lines.proofs.codes_line.Lts as lts
-use Rattle.text_lines.proofs.put_hex.Reads as put-hex-reads
-use Rattle.text_lines.proofs.wide.Reads as wide-reads
 use Rattle.text_lines.proofs.codes_line.Goals as goal
 
 pub loop-q-init : goal.loop-q-init

@@ -2,10 +2,6 @@
 use Prim.Native.Nat.{◌-◌, ◌≤◌}
 use lib.ListN.{get_or}
 use Rattle.text_lines.proofs.Lines.{CellsTo}
-use Rattle.text_lines.proofs.codes_line.Reads as reads
-use Rattle.text_lines.proofs.codes_line.Lts as lts
-use Rattle.text_lines.proofs.put_hex.Reads as put-hex-reads
-use Rattle.text_lines.proofs.wide.Reads as wide-reads
 use Rattle.text_lines.proofs.codes_line.Given as goal
 
 abbrev pub invariant-loop-q : goal.invariant-loop-q

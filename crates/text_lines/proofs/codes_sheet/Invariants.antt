@@ -2,9 +2,6 @@
 use Prim.Native.Nat.{◌-◌, ◌≤◌}
 use lib.ListN.{get_or}
 use Rattle.text_lines.proofs.Lines.{LinesTo}
-use Rattle.text_lines.proofs.codes_sheet.Reads as reads
-use Rattle.text_lines.proofs.codes_sheet.Lts as lts
-use Rattle.text_lines.proofs.codes_line.Reads as codes-line-reads
 use Rattle.text_lines.proofs.codes_sheet.Given as goal
 
 abbrev pub invariant-loop-r : goal.invariant-loop-r

@@ -4,10 +4,6 @@ use Rattle.grid.specs.Sheet.{at}
 use Rattle.grid.specs.Frames.{to_twos}
 use Rattle.text_lines.specs.Sixteen.{SixteenFrom}
 use Rattle.text_lines.proofs.Lines.{CellsTo}
-use Rattle.text_lines.proofs.elevations_line.Reads as reads
-use Rattle.text_lines.proofs.elevations_line.Lts as lts
-use Rattle.text_lines.proofs.put_hex.Reads as put-hex-reads
-use Rattle.text_lines.proofs.twos_at.Reads as twos-at-reads
 use Rattle.text_lines.proofs.elevations_line.Given as goal
 
 abbrev pub invariant-loop-q : goal.invariant-loop-q

@@ -1,16 +1,12 @@
 -- `text_lines::elevations_sheet`: r lines of the sheet are stored.
 use mathlib.Core.Path.{◌≡◌, sym, ap, ◌∙◌}
-use Prim.Native.Nat.{ℕ, ◌+◌, ◌-◌, ◌*◌}
+use Prim.Native.Nat.{ℕ, ◌+◌, ◌*◌}
 use native.Mathlib.Nat.{zero-add}
 use native.Mathlib.Omega.{arith}
-use Rattle.grid.specs.Sheet.{at}
 use Rattle.text_laws.proofs.Runs.{one_more_fits}
 use Rattle.text_laws.proofs.Digits.{sheet_lines}
 use Rattle.text_lines.proofs.Sixteen.{none_read, more_read, all_read}
 use Rattle.text_lines.proofs.Lines.{lines_none, lines_more, lines_end}
-use Rattle.text_lines.proofs.elevations_sheet.Reads as reads
-use Rattle.text_lines.proofs.elevations_sheet.Lts as lts
-use Rattle.text_lines.proofs.elevations_line.Reads as elevations-line-reads
 use Rattle.text_lines.proofs.elevations_sheet.Goals as goal
 
 pub loop-r-init : goal.loop-r-init

@@ -4,9 +4,6 @@ use Rattle.grid.specs.Sheet.{at}
 use Rattle.grid.specs.Frames.{to_twos}
 use Rattle.text_lines.specs.Sixteen.{SixteenFrom}
 use Rattle.text_lines.proofs.Lines.{LinesTo}
-use Rattle.text_lines.proofs.elevations_sheet.Reads as reads
-use Rattle.text_lines.proofs.elevations_sheet.Lts as lts
-use Rattle.text_lines.proofs.elevations_line.Reads as elevations-line-reads
 use Rattle.text_lines.proofs.elevations_sheet.Given as goal
 
 abbrev pub invariant-loop-r : goal.invariant-loop-r

@@ -1,14 +1,10 @@
 -- `text_lines::numbers_sheet`: r lines of the sheet are stored.
 use mathlib.Core.Path.{◌≡◌}
-use Prim.Native.Nat.{◌+◌, ◌-◌, ◌*◌}
+use Prim.Native.Nat.{◌+◌, ◌*◌}
 use native.Mathlib.Omega.{arith}
-use Rattle.grid.specs.Sheet.{at}
 use Rattle.text_laws.proofs.Runs.{one_more_fits}
 use Rattle.text_laws.proofs.Digits.{sheet_lines}
 use Rattle.text_lines.proofs.Lines.{lines_none, lines_more, lines_end}
-use Rattle.text_lines.proofs.numbers_sheet.Reads as reads
-use Rattle.text_lines.proofs.numbers_sheet.Lts as lts
-use Rattle.text_lines.proofs.numbers_line.Reads as numbers-line-reads
 use Rattle.text_lines.proofs.numbers_sheet.Goals as goal
 
 pub loop-r-init : goal.loop-r-init

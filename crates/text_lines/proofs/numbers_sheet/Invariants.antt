@@ -2,9 +2,6 @@
 use Prim.Native.Nat.{◌-◌, ◌≤◌}
 use lib.ListN.{get_or}
 use Rattle.text_lines.proofs.Lines.{LinesTo}
-use Rattle.text_lines.proofs.numbers_sheet.Reads as reads
-use Rattle.text_lines.proofs.numbers_sheet.Lts as lts
-use Rattle.text_lines.proofs.numbers_line.Reads as numbers-line-reads
 use Rattle.text_lines.proofs.numbers_sheet.Given as goal
 
 abbrev pub invariant-loop-r : goal.invariant-loop-r

@@ -7,9 +7,6 @@ use lib.ListN.{set, length-set}
 use lib.Seq.{sets}
 use Rattle.grid.specs.Frames.{hex_text}
 use Rattle.text_laws.proofs.Digits.{length_hex, last_digit, no_digit}
-use Rattle.text_lines.proofs.put_hex.Reads as reads
-use Rattle.text_lines.proofs.put_hex.Lts as lts
-use Rattle.text_lines.proofs.upper_digit.Reads as upper-digit-reads
 use Rattle.text_lines.proofs.put_hex.Goals as goal
 
 pub loop-left-init : goal.loop-left-init

@@ -1,12 +1,9 @@
 -- `text_lines::put_hex`: what is stored, with the digits that are left stored too, is the whole number.
 use mathlib.Core.Path.{◌≡◌}
-use Prim.Native.Nat.{◌-◌, ◌≤◌}
+use Prim.Native.Nat.{◌≤◌}
 use lib.ListN.{length}
 use lib.Seq.{sets}
 use Rattle.grid.specs.Frames.{hex_text}
-use Rattle.text_lines.proofs.put_hex.Reads as reads
-use Rattle.text_lines.proofs.put_hex.Lts as lts
-use Rattle.text_lines.proofs.upper_digit.Reads as upper-digit-reads
 use Rattle.text_lines.proofs.put_hex.Given as goal
 
 abbrev pub invariant-loop-left : goal.invariant-loop-left
