@@ -24,7 +24,7 @@ use Rattle.crew_laws.specs.Going.{OnItsWay, Arrived, Within}
 use Rattle.crew_laws.proofs.Turns.{idle_status}
 use Rattle.crew_laws.proofs.Changes.{handed_in_lem, handed_status, freed_early, freed_status}
 use Rattle.crew_laws.proofs.Along.{length_after, along_run, along_hand_in, none_handed, along_collect}
-use Rattle.crew_laws.proofs.Finish.{begins}
+use Rattle.crew_laws.proofs.Begin.{begins}
 use Rattle.crew_laws.proofs.Keeps.{none_lost}
 
 last_join : (l m : List ℕ) (b : ℕ) → last_of (l ++ m) b ≡ last_of m (last_of l b)

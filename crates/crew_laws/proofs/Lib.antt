@@ -3,6 +3,7 @@
 --   Nearer       each turn brings a trace one turn nearer to its end
 --   Changes      what a hand-in and a collection change; what an accepted hand-in says
 --   Along        a trace that is not yet collected, along any list of operations
+--   Begin        at its hand-in a trace has its whole route before it
 --   Finish       finished in time, at the very turn too
 --   Keeps        no turn leads a trace to a cell without a code; a run cut in two
 --   Collect      what is collected is the outlet of the cell handed in last; no run gets 23
@@ -12,6 +13,7 @@ pub mod Turns
 pub mod Nearer
 pub mod Changes
 pub mod Along
+pub mod Begin
 pub mod Finish
 pub mod Keeps
 pub mod Collect

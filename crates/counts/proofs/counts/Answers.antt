@@ -5,7 +5,7 @@ use native.Mathlib.Omega.{arith}
 use Rattle.grid.specs.Sheet.{size}
 use Rattle.receivers.proofs.Codes.{all_codes}
 use Rattle.checks.proofs.FromCodes.{refused_promise, sizes, bad_promise, none_bad, endless_promise, made_promise}
-use Rattle.checks.proofs.Room.{half_room}
+use Rattle.counts.proofs.Behind.{tail_room}
 use Rattle.counts.proofs.Promise.{promise, given_back, first_half_kept}
 use borrow.Author.Rules.{rules}
 use Rattle.counts.proofs.counts.Goals as goal
@@ -45,7 +45,7 @@ counts_into-first-requires c =
       fits = s.fits;
       codes_len = s.codes_long;
       counts_len = s.result_long;
-      g_in_bounds = half_room (size a.g) a.work.now s.room;
+      g_in_bounds = tail_room (size a.g) a.work.now s.room;
       all_codes = all_codes a.g a.codes.now s.codes_long e;
     }
 
