@@ -2,7 +2,7 @@
 // that is accepted, so that a longer one is noticed.
 #![tactic(auto)]
 
-ghost use Rattle.std.specs.Prelude.{◌<◌, ◌≤◌, length, take, IfOk, IfSome, OnOk};
+ghost use Rattle.std.specs.Prelude.{◌≡◌, ◌<◌, ◌≤◌, ◌++◌, length, take, drop, IfOk, IfSome, OnOk};
 ghost use Rattle.std.specs.Io.KnownBytes.{Appends, Consumes, IsAtEnd};
 ghost use Rattle.grid.specs.Frames.{program_text};
 
@@ -26,10 +26,11 @@ fn read_full<R: Read>(input: &mut R, text: &mut [u8]) -> io::Result<usize>
     Ok(done)
 }
 
-// Prints what is defined for a text, by way of a buffer that is lent.
+// Prints what is defined for a text, by way of a buffer that is lent: there it stands where the writer fails too.
 fn print<W: Write>(text: &[u8], out: &mut [u8], output: &mut W) -> io::Result<()>
     requires { 59913 ≤ length out.old }
-    ensures { OnOk result (Appends (W.contents output.old) (W.contents output.new) (program_text text.now)) }
+    ensures appends { OnOk result (Appends (W.contents output.old) (W.contents output.new) (program_text text.now)) }
+    ensures stored { out.new ≡ program_text text.now ++ drop (length (program_text text.now)) out.old }
 {
     let n = drain_text::run(text, out);
     output.write_all(&out[..n])

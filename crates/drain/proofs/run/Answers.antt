@@ -12,4 +12,4 @@ returns g c =
     let printed : List ℕ → Type 0 = λ text. Appends (g.W.Write.contents c.args.output.now) (g.W.Write.contents c.print.new.output) (program_text text) in
     IfOk-weaker c.print.result _ _
     (λ _ done. of_input _ _ c.read_full.new.text c.in_ok-n.n 11530 printed c.read_full.auto.text read.fits read.bytes read.end done)
-    c.print.ensures
+    c.print.ensures.appends
