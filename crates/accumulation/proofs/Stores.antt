@@ -7,7 +7,6 @@ use native.Mathlib.Omega.{arith}
 use lib.Dec.{eqb, ltb}
 use lib.ListN.{length, get_or, set, length-set}
 use lib.Seq.{get_or-set_same, get_or-set_other, get_or-take, take-set-le}
-use borrow.Author.Count.{below_more}
 use borrow.Author.Tests.{lt-ltb, le-ltb}
 use Rattle.grid_laws.proofs.Tests.{test}
 use Rattle.grid_laws.proofs.Below.{count_ext}
@@ -39,12 +38,6 @@ word_here n t k v h l = get_or-set_same t (n + k) v 0 (omega arith)
 
 pub word_other : (n : ℕ) (t : List ℕ) (k v c : ℕ) → (c ≡ k → ⊥) → word_at n (set t (n + k) v) c ≡ word_at n t c
 word_other n t k v c f = get_or-set_other t (n + k) (n + c) v 0 (λ e. f (omega arith))
-
--- ---- words of 0
-pub cleared_more : (n : ℕ) (t : List ℕ) (i : ℕ) → n + n ≤ length t → i < n → ((c : ℕ) → c < i → word_at n t c ≡ 0) → (c : ℕ) → c < i + 1 →
-    word_at n (set t (n + i) 0) c ≡ 0
-cleared_more n t i h l z =
-    below_more _ i (λ c k. word_other n t i 0 c (λ e. let y : ⊥ = omega arith in absurd y) ∙ z c k) (word_here n t i 0 h l)
 
 -- ---- one donor
 pub kept_donor : (n : ℕ) (t₀ t : List ℕ) (d : ℕ) → Kept n t₀ t → Kept n t₀ (donor_added n t d)
@@ -93,21 +86,16 @@ donor_one n t d next e h = rw (lt-ltb (mark_at t d) n (omega arith)) (rw e refl)
 
 -- the loop over donors
 abbrev pub DonorsFrom : ℕ → List ℕ → List ℕ → ℕ → Type 0
-DonorsFrom n t₀ t d = (d ≤ n) × Kept n t₀ t × DonorsTo n (mark_at t₀) d (word_at n t)
+DonorsFrom n t₀ t d = Kept n t₀ t × DonorsTo n (mark_at t₀) d (word_at n t)
 
 pub donors_start : (n : ℕ) (t : List ℕ) → ((c : ℕ) → c < n → word_at n t c ≡ 0) → DonorsFrom n t t 0
-donors_start n t z = (omega arith, kept_none n t, donors_none n (mark_at t) (word_at n t) z)
+donors_start n t z = (kept_none n t, donors_none n (mark_at t) (word_at n t) z)
 
 pub donors_turn : (n : ℕ) (t₀ t u : List ℕ) (d : ℕ) → Roomy n t₀ → FewDonors n (mark_at t₀) → d < n → DonorsFrom n t₀ t d →
     u ≡ donor_added n t d → DonorsFrom n t₀ u (d + 1)
 donors_turn n t₀ t u d R few l D e =
     subst (λ (x : List ℕ). DonorsFrom n t₀ x (d + 1)) (sym e)
-    (omega arith, kept_donor n t₀ t d D.1, donor_counted n t₀ t d R D.1 few l D.2)
-
-pub donors_end : (n : ℕ) (t₀ t : List ℕ) (d : ℕ) → DonorsFrom n t₀ t d → n ≤ d → Kept n t₀ t × DonorsTo n (mark_at t₀) n (word_at n t)
-donors_end n t₀ t d D h =
-    let e : d ≡ n = let a = D.0 in omega arith in
-    (D.1, subst (λ (x : ℕ). DonorsTo n (mark_at t₀) x (word_at n t)) e D.2)
+    (kept_donor n t₀ t d D.0, donor_counted n t₀ t d R D.0 few l D.1)
 
 pub same_few : (n : ℕ) (t₀ t : List ℕ) → Kept n t₀ t → FewDonors n (mark_at t₀) → FewDonors n (mark_at t)
 same_few n t₀ t K few c l =

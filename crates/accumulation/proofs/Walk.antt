@@ -237,21 +237,20 @@ pub settled_already : (n i : ℕ) (t : List ℕ) (left : ℕ) → Between n t t 
 settled_already n i t left B h = record { between = B; settled = λ k l w. ⊎_elim (λ e. rw e h) (λ s. s) w }
 
 abbrev pub Scanning : ℕ → List ℕ → List ℕ → ℕ → ℕ → Type 0
-Scanning n t₀ t left i = (i ≤ n) × Between n t₀ t left × Settled n i t
+Scanning n t₀ t left i = Between n t₀ t left × Settled n i t
 
 pub scan_starts : (n : ℕ) (t : List ℕ) → Between n t t n → Scanning n t t n 0
-scan_starts n t B = (omega arith, B, λ k l. let z : ⊥ = omega arith in absurd z)
+scan_starts n t B = (B, λ k l. let z : ⊥ = omega arith in absurd z)
 
 pub scan_turn : (n : ℕ) (t₀ t u : List ℕ) (left left' i : ℕ) → Scanning n t₀ t left i → i < n → Down n i t u left' →
     Scanning n t₀ u left' (i + 1)
 scan_turn n t₀ t u left left' i S on D = (
-  omega arith,
-  then_between n t₀ t u left' S.1.kept D.between,
-  below_more _ i (λ k l. D.settled k (omega arith) (inr (S.2 k l))) (D.settled i on (inl refl)),
+  then_between n t₀ t u left' S.0.kept D.between,
+  below_more _ i (λ k l. D.settled k (omega arith) (inr (S.1 k l))) (D.settled i on (inl refl)),
 )
 
 pub scan_ends : (n : ℕ) (t₀ t : List ℕ) (left i : ℕ) → Scanning n t₀ t left i → n ≤ i → Accumulated n t₀ t left
-scan_ends n t₀ t left i S h = record { between = S.1; settled = λ k l. S.2 k (omega arith) }
+scan_ends n t₀ t left i S h = record { between = S.0; settled = λ k l. S.1 k (omega arith) }
 
 -- the scan, after the donors of the tail that came in
 pub scanned_after : (n : ℕ) (t₀ t u : List ℕ) (left : ℕ) → Kept n t₀ t → Accumulated n t u left → Accumulated n t₀ u left

@@ -17,23 +17,13 @@ const UNIT: u32 = 16777216;
 
 const DONE: u32 = 4278190080;
 
-fn wide(x: u32) -> usize
-    ensures { result ≡ x }
-{
-    x as usize
-}
-
 // Words of 0.
 fn clear(n: usize, tail: &mut [u32])
     requires { Roomy n tail.old }
     ensures kept { Kept n tail.old tail.new }
     ensures by_index { (c : ℕ) → c < n → word_at n tail.new c ≡ 0 }
 {
-    let mut i = 0;
-    while i < n {
-        tail[n + i] = 0;
-        i += 1;
-    }
+    tail[n..n + n].fill(0);
 }
 
 // One donor more for the cell that `d` flows into.
@@ -43,11 +33,11 @@ fn add_donor(n: usize, tail: &mut [u32], d: usize)
     requires by_index { (c : ℕ) → c < n → word_at n tail.old c ≤ 134217728 }
     ensures { tail.new ≡ donor_added n tail.old d }
 {
-    let next = wide(tail[d]);
+    let next = tail[d] as usize;
     if next >= n {
         return;
     }
-    tail[n + next] = tail[n + next] + UNIT;
+    tail[n + next] += UNIT;
 }
 
 // Of each cell the number of its donors.
@@ -58,10 +48,8 @@ fn count_donors(n: usize, tail: &mut [u32])
     ensures kept { Kept n tail.old tail.new }
     ensures donors_to { DonorsTo n (mark_at tail.old) n (word_at n tail.new) }
 {
-    let mut d = 0;
-    while d < n {
+    for d in 0..n {
         add_donor(n, tail, d);
-        d += 1;
     }
 }
 
@@ -73,7 +61,7 @@ fn pass(n: usize, tail: &mut [u32], c: usize) -> usize
     ensures value { result ≡ onward n tail.old c }
 {
     let count = tail[n + c];
-    let next = wide(tail[c]);
+    let next = tail[c] as usize;
     if next >= n {
         tail[n + c] = count + DONE;
         return n;
@@ -124,10 +112,8 @@ fn scan(n: usize, tail: &mut [u32]) -> usize
     ensures { Accumulated n tail.old tail.new result }
 {
     let mut left = n;
-    let mut i = 0;
-    while i < n {
+    for i in 0..n {
         left = visit(n, tail, i, left);
-        i += 1;
     }
     left
 }

@@ -12,7 +12,7 @@ use Rattle.grid.specs.declared.Answer.{Answer}
 use Rattle.grid.specs.Sheet.{size}
 use Rattle.grid.specs.Checks.{refusal, ask, in_range, in_shape, ask_size, all_have, ask_lengths, ask_sides, ask_shape, ask_sheets, ask_outlets}
 use Rattle.grid.specs.Checks.{ask_description, ask_flow, ask_work}
-use Rattle.grid_laws.proofs.Tests.{cond_true, and_true, and_left, and_right, not_is_true, not_is_false}
+use Rattle.grid_laws.proofs.Tests.{true_false, cond_true, and_true, and_left, and_right, not_is_true, not_is_false}
 use Rattle.shape_laws.specs.Shaped.{Shaped}
 use Rattle.shape_laws.proofs.Shapes.{shaped_of}
 use Rattle.checks.specs.Sizes.{Fits}
@@ -69,6 +69,23 @@ same_fits g h r c f = rw (r, c) record {
 }
 
 -- ---- 7 to 9
+
+-- two lengths before others
+pub all_both : (n a b : ℕ) (ls : List ℕ) → all_have n (a ∷ b ∷ []) ≡ true → all_have n ls ≡ all_have n (a ∷ b ∷ ls)
+unfolding all_have
+all_both n a b ls e =
+    let one : eqb a n ≡ true = and_left (eqb a n) (eqb b n && true) e in
+    let two : eqb b n ≡ true = and_left (eqb b n) true (and_right (eqb a n) (eqb b n && true) e) in
+    sym (ap (λ (t : Bool). t && (eqb b n && all_have n ls)) one ∙ ap (λ (t : Bool). t && all_have n ls) two)
+
+pub all_not_both : (n a b : ℕ) (ls : List ℕ) → all_have n (a ∷ b ∷ []) ≡ false → all_have n (a ∷ b ∷ []) ≡ all_have n (a ∷ b ∷ ls)
+unfolding all_have
+all_not_both n a b ls e = e ∙ sym (go (eqb a n) (eqb b n) e)
+  where
+    go : (x y : Bool) → (x && (y && true)) ≡ false → (x && (y && all_have n ls)) ≡ false
+    go false y f = refl
+    go true false f = refl
+    go true true f = true_false refl f
 
 -- each length of a list is n
 abbrev pub AllAre : ℕ → List ℕ → Type 0

@@ -24,6 +24,7 @@ pub const CHOICE: [u8; 256] = [
 ];
 
 // The table, to be bound once outside a loop and lent to `choose`.
+#[tactic(auto, using(crate::proofs::Entries::entries_are), unfolding(crate::proofs::Entries::entries))]
 pub fn choices() -> [u8; 256]
     ensures { result ≡ choices' }
 {
@@ -31,6 +32,7 @@ pub fn choices() -> [u8; 256]
 }
 
 // The choice for a sum of codes.
+#[tactic(auto, using(crate::proofs::Entries::choice_at))]
 pub fn choose(table: &[u8; 256], sum: usize) -> u8
     requires table_value { table.now ≡ choices' }
     requires sum_bound { sum < 256 }

@@ -16,10 +16,8 @@ fn copy_counts(n: usize, tail: &[u32], counts: &mut [u32])
     requires counts_len { length counts.old ≡ n }
     ensures { counts.new ≡ table n (λ (c : ℕ). tally (word_at n tail.now c)) }
 {
-    let mut i = 0;
-    while i < n {
+    for i in 0..n {
         counts[i] = tail[n + i] % 16777216;
-        i += 1;
     }
 }
 

@@ -8,52 +8,48 @@ ghost use Rattle.std.specs.Prelude.{◌≡◌, cond, ◌+◌, ◌<◌, ◌≤◌
 ghost use Rattle.grid.specs.Sheet.{size};
 ghost use Rattle.grid.specs.Routes.{counts as counts', first_endless};
 ghost use Rattle.grid.specs.Promises.{CountsPromise};
-ghost use Rattle.route_laws.specs.Receivers.{AllCodes};
-ghost use Rattle.checks.specs.Sizes.{Fits};
+ghost use Rattle.refusals.specs.Answers.{answer_of};
 
-use grid::{Answer, Grid};
+use grid::Grid;
+use receivers::CodeSheet;
+use refusals::{Question, Refusal};
 
 // The counts, if every route ends, by way of the lent tail; the result is the first cell whose route does not, or rows * cols.
-fn counts_into(g: Grid, codes: &[u8], counts: &mut [u32], tail: &mut [u32]) -> usize
-    requires fits { Fits g }
-    requires codes_len { length codes.now ≡ size g }
-    requires counts_len { length counts.old ≡ size g }
-    requires g_in_bounds { size g + size g ≤ length tail.old }
-    requires all_codes { AllCodes codes.now }
-    ensures value { result ≡ first_endless g codes.now }
-    ensures counts_after { counts.new ≡ cond (eqb result (size g)) (counts' g codes.now) counts.old }
+fn counts_into(codes: &CodeSheet, counts: &mut [u32], tail: &mut [u32]) -> usize
+    requires counts_len { length counts.old ≡ size codes.now.grid }
+    requires codes_in_bounds { size codes.now.grid + size codes.now.grid ≤ length tail.old }
+    ensures value { result ≡ first_endless codes.now.grid codes.now.codes.now }
+    ensures counts_after { counts.new
+        ≡ cond (eqb result (size codes.now.grid)) (counts' codes.now.grid codes.now.codes.now) counts.old }
 {
-    let n = g.rows * g.cols;
-    receivers::receivers_from(g, codes, tail);
+    let n = codes.grid.rows * codes.grid.cols;
+    receivers::receivers_from(codes, tail);
     counting::counts_of(n, tail, counts)
 }
 
 // Codes to counts.
-pub fn counts(g: Grid, codes: &[u8], counts: &mut [u32], work: &mut [u32]) -> Answer
+pub fn counts(
+    g: Grid,
+    codes: &[u8],
+    counts: &mut [u32],
+    work: &mut [u32],
+) -> Result<(), Refusal<u32>>
     ensures { CountsPromise g codes.now counts.old counts.new work.old work.new
-        result }
+        (answer_of result) }
 {
     let given = codes.len();
     let wanted = counts.len();
     let room = work.len();
-    let answer = checks::check(g, given, given, wanted, wanted, wanted, wanted, room);
-    if answer.number != 0 {
-        return answer;
-    }
+    checks::check(g, given, given, wanted, wanted, wanted, wanted, room)?;
     let bad = receivers::first_bad_code(g, codes);
     if bad < given {
-        return Answer {
-            number: 11,
-            place: bad as u32,
-        };
+        return Err(Question::Codes.at(bad as u32));
     }
+    let sheet = CodeSheet { grid: g, codes };
     let half = room / 2;
-    let first = counts_into(g, codes, counts, &mut work[half..]);
+    let first = counts_into(&sheet, counts, &mut work[half..]);
     if first < given {
-        return Answer {
-            number: 12,
-            place: first as u32,
-        };
+        return Err(Question::Routes.at(first as u32));
     }
-    answer
+    Ok(())
 }

@@ -74,11 +74,9 @@ module _ (e : List ℤ) (cells : List ℕ) (levels : List ℤ) where
   unfolding first_bad_entry
   bad_found k h G t = sym (first_is (length cells) (is_bad_entry e cells levels) k h t G)
 
-  pub none_found : (k : ℕ) → k ≤ length cells → length cells ≤ k → GoodTo k → k ≡ first_bad_entry e cells levels
+  pub none_found : (k : ℕ) → length cells ≤ k → GoodTo k → length cells ≡ first_bad_entry e cells levels
   unfolding first_bad_entry
-  none_found k h l G =
-      let q : k ≡ length cells = omega arith in
-      q ∙ sym (first_none (length cells) (is_bad_entry e cells levels) (λ j m. G j (omega arith)))
+  none_found k l G = sym (first_none (length cells) (is_bad_entry e cells levels) (λ j m. G j (omega arith)))
 
   -- the answer, by the first bad entry
   module _ (bad : ℕ) (first : bad ≡ first_bad_entry e cells levels) where

@@ -4,16 +4,17 @@
 // keys (proofs/Loaded), and the elevations are only read.
 #![tactic(auto)]
 
-ghost use Rattle.std.specs.Prelude.{◌≡◌, cond, ◌≤◌, ◌<◌, leb, length, set};
+ghost use Rattle.std.specs.Prelude.{◌≡◌, ◌≤◌, ◌<◌, length, set};
 ghost use Rattle.grid.specs.Culverts.{opened, is_level_for, first_bad_entry};
-ghost use Rattle.grid.specs.Checks.{accepted, ask_entries, of_located};
+ghost use Rattle.grid.specs.Checks.{accepted, ask_entries};
+ghost use Rattle.refusals.specs.Answers.{answer_of};
 ghost use Rattle.cells.specs.Keys.{level_of};
 ghost use Rattle.culvert_entries.specs.Loaded.{Loaded};
 
-use grid::Located;
+use refusals::{Question, Refusal};
 
 // Whether the cell may be opened to the level: not "if the level is −32,768 or above the cell's elevation".
-fn is_level_for(elevations: &[i16], cell: usize, key: u32) -> bool
+fn is_level_for(elevations: &[i16], cell: usize, key: u16) -> bool
     ensures { result ≡ is_level_for elevations.now cell (level_of key) }
 {
     let here = cells::key_at(elevations, cell);
@@ -29,50 +30,29 @@ fn first_bad_entry(elevations: &[i16], cells: &[u32], levels: &[i16]) -> usize
     requires { length levels.now ≡ length cells.now }
     ensures { result ≡ first_bad_entry elevations.now cells.now levels.now }
 {
-    let mut k: usize = 0;
-    while k < cells.len() {
+    for (k, cell) in cells.iter().enumerate() {
         let key = cells::key_at(levels, k);
-        if !is_level_for(elevations, cells[k] as usize, key) {
+        if !is_level_for(elevations, *cell as usize, key) {
             return k;
         }
-        k += 1;
     }
-    k
+    cells.len()
 }
 
 // 15 and 16: "the number is that of the first bad entry, 15 before 16, and the place its position in the list".
-pub fn check(elevations: &[i16], cells: &[u32], levels: &[i16]) -> Located
+pub fn check(elevations: &[i16], cells: &[u32], levels: &[i16]) -> Result<(), Refusal<usize>>
     requires { length levels.now ≡ length cells.now }
-    ensures { of_located result ≡ ask_entries elevations.now cells.now levels.now accepted }
+    ensures { answer_of result ≡ ask_entries elevations.now cells.now levels.now accepted }
 {
     let bad = first_bad_entry(elevations, cells, levels);
     if bad >= cells.len() {
-        return Located {
-            number: 0,
-            place: 0,
-        };
+        return Ok(());
     }
     let cell = cells[bad] as usize;
     if cells::key_at(elevations, cell) == 0 {
-        return Located {
-            number: 15,
-            place: bad,
-        };
+        return Err(Question::CulvertCell.at(bad));
     }
-    Located {
-        number: 16,
-        place: bad,
-    }
-}
-
-// The lower of two keys: "a cell named twice has the lower of its levels".
-fn lower_key(a: u32, b: u32) -> u32
-    ensures { result ≡ cond (leb a b) a b }
-{
-    if a <= b {
-        return a;
-    }
-    b
+    Err(Question::CulvertLevel.at(bad))
 }
 
 // Opens the cell, in the sheet whose keys stand in the work buffer.
@@ -83,7 +63,8 @@ fn open_cell(work: &mut [u32], cell: usize, key: u32)
     work[cell] = key;
 }
 
-// Loads the opened sheet: the keys of the elevations first into the work buffer, and then entry by entry.
+// Loads the opened sheet: the keys of the elevations first into the work buffer, and then entry by entry; "a cell named twice has the lower of
+// its levels".
 pub fn load_opened(elevations: &[i16], cells: &[u32], levels: &[i16], work: &mut [u32])
     requires elevations_in_bounds { length elevations.now ≤ length work.old }
     requires levels_len { length levels.now ≡ length cells.now }
@@ -91,12 +72,10 @@ pub fn load_opened(elevations: &[i16], cells: &[u32], levels: &[i16], work: &mut
     ensures { Loaded (opened elevations.now cells.now levels.now) work.new }
 {
     fill::load(elevations, work);
-    let mut k: usize = 0;
-    while k < cells.len() {
+    for (k, cell) in cells.iter().enumerate() {
         let level = cells::key_at(levels, k);
-        let cell = cells[k] as usize;
-        let key = lower_key(work[cell], level);
+        let cell = *cell as usize;
+        let key = work[cell].min(level as u32);
         open_cell(work, cell, key);
-        k += 1;
     }
 }

@@ -8,12 +8,24 @@
 ghost use Rattle.std.specs.Prelude.{◌≡◌, length};
 ghost use Rattle.grid.specs.Sheet.{size};
 ghost use Rattle.grid.specs.Culverts.{opened, first_bad_entry};
-ghost use Rattle.grid.specs.Checks.{accepted, ask_reach, of_located};
+ghost use Rattle.grid.specs.Checks.{accepted, ask_reach};
 ghost use Rattle.grid.specs.Promises.{FourResults, CulvertsPromise};
+ghost use Rattle.refusals.specs.Answers.{answer_of, located_of};
 ghost use Rattle.drainage.specs.Results.{Measured};
 ghost use Rattle.culvert_laws.specs.Asked.{asked_to9, asked_to16};
 
-use grid::{Answer, Grid, Located};
+use grid::Grid;
+use refusals::{Question, Refusal};
+
+// The lengths of the result sheets and of the work buffer.
+#[derive(Clone, Copy)]
+struct Lengths {
+    filled: usize,
+    codes: usize,
+    counts: usize,
+    labels: usize,
+    work: usize,
+}
 
 // The questions up to 9, for the lengths of all lists.
 fn ask_lengths(
@@ -21,27 +33,26 @@ fn ask_lengths(
     elevations: &[i16],
     cells: &[u32],
     levels: &[i16],
-    filled: usize,
-    codes: usize,
-    counts: usize,
-    labels: usize,
-    work: usize,
-) -> Answer
-    ensures { result ≡ asked_to9 g elevations.now cells.now levels.now filled codes counts labels work
-        accepted }
+    lent: Lengths,
+) -> Result<(), Refusal<u32>>
+    ensures { answer_of result ≡ asked_to9 g elevations.now cells.now levels.now lent.filled lent.codes lent.counts
+        lent.labels lent.work accepted }
 {
-    let described = checks::description(g);
-    if described.number != 0 {
-        return described;
-    }
+    checks::description(g)?;
     if levels.len() != cells.len() {
-        return Answer {
-            number: 7,
-            place: 0,
-        };
+        return Err(Question::Inputs.into());
     }
     let given = elevations.len();
-    checks::check(g, given, given, filled, codes, counts, labels, work)
+    checks::check(
+        g,
+        given,
+        given,
+        lent.filled,
+        lent.codes,
+        lent.counts,
+        lent.labels,
+        lent.work,
+    )
 }
 
 // And 15 and 16.
@@ -50,21 +61,12 @@ fn ask(
     elevations: &[i16],
     cells: &[u32],
     levels: &[i16],
-    filled: usize,
-    codes: usize,
-    counts: usize,
-    labels: usize,
-    work: usize,
-) -> Located
-    ensures { of_located result ≡ asked_to16 g elevations.now cells.now levels.now filled codes counts
-        labels work accepted }
+    lent: Lengths,
+) -> Result<(), Refusal<usize>>
+    ensures { answer_of result ≡ asked_to16 g elevations.now cells.now levels.now lent.filled lent.codes lent.counts
+        lent.labels lent.work accepted }
 {
-    let sized = ask_lengths(
-        g, elevations, cells, levels, filled, codes, counts, labels, work,
-    );
-    if sized.number != 0 {
-        return checks::located(sized);
-    }
+    ask_lengths(g, elevations, cells, levels, lent)?;
     culvert_entries::check(elevations, cells, levels)
 }
 
@@ -79,15 +81,15 @@ fn drain_opened(
     counts: &mut [u32],
     labels: &mut [u32],
     work: &mut [u32],
-) -> Answer
+) -> Result<(), Refusal<u32>>
     requires measured { Measured g (length filled.old) (length codes.old) (length counts.old) (length labels.old) (length work.old) }
     requires elevations_len { length elevations.now ≡ size g }
     requires levels_len { length levels.now ≡ length cells.now }
     requires levels_value { first_bad_entry elevations.now cells.now levels.now ≡ length cells.now }
-    ensures value { result ≡ ask_reach g (opened elevations.now cells.now levels.now) accepted }
+    ensures value { answer_of result ≡ ask_reach g (opened elevations.now cells.now levels.now) accepted }
     ensures four_results { FourResults g (opened elevations.now cells.now levels.now) filled.old
         filled.new codes.old codes.new counts.old counts.new labels.old
-        labels.new result }
+        labels.new (answer_of result) }
 {
     culvert_entries::load_opened(elevations, cells, levels, work);
     drainage::drain_loaded(g, elevations, filled, codes, counts, labels, work)
@@ -104,27 +106,21 @@ pub fn culverts(
     counts: &mut [u32],
     labels: &mut [u32],
     work: &mut [u32],
-) -> Located
+) -> Result<(), Refusal<usize>>
     ensures { CulvertsPromise g elevations.now cells.now levels.now filled.old
         filled.new codes.old codes.new counts.old counts.new labels.old
-        labels.new work.old work.new result }
+        labels.new work.old work.new (located_of result) }
 {
-    let asked = ask(
-        g,
-        elevations,
-        cells,
-        levels,
-        filled.len(),
-        codes.len(),
-        counts.len(),
-        labels.len(),
-        work.len(),
-    );
-    if asked.number != 0 {
-        return asked;
-    }
-    let answer = drain_opened(
+    let lent = Lengths {
+        filled: filled.len(),
+        codes: codes.len(),
+        counts: counts.len(),
+        labels: labels.len(),
+        work: work.len(),
+    };
+    ask(g, elevations, cells, levels, lent)?;
+    drain_opened(
         g, elevations, cells, levels, filled, codes, counts, labels, work,
-    );
-    checks::located(answer)
+    )?;
+    Ok(())
 }

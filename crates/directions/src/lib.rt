@@ -8,62 +8,59 @@ ghost use Rattle.std.specs.Prelude.{◌≡◌, ◌+◌, ◌*◌, ◌/◌, ◌<�
 ghost use Rattle.grid.specs.Sheet.{size};
 ghost use Rattle.grid.specs.Checks.{refusal, ask_reach};
 ghost use Rattle.grid.specs.Promises.{DirectionsPromise};
+ghost use Rattle.refusals.specs.Answers.{answer_of, refused};
 ghost use Rattle.cells.specs.Marks.{Marked};
 
-use grid::{Answer, Grid};
+use cells::Sheet;
+use grid::Grid;
+use refusals::{Question, Refusal};
 
 // The no of a sheet whose data cell `first` has no level: 18 is asked before 10.
-fn lacking(g: Grid, elevations: &[i16], first: usize, work: &mut [u32]) -> Answer
-    requires g_bound { size g < 2 ^ 24 }
-    requires cols_bound { g.cols < 2 ^ 24 }
-    requires elevations_len { length elevations.now ≡ size g }
-    requires g_in_bounds { 4 * size g ≤ length work.old }
-    requires first_bound { first < size g }
-    ensures { result ≡ ask_reach g elevations.now (refusal 10 first) }
+fn lacking(s: &Sheet, first: usize, work: &mut [u32]) -> Refusal<u32>
+    requires g_in_bounds { 4 * size s.now.grid ≤ length work.old }
+    requires first_bound { first < size s.now.grid }
+    ensures { refused result ≡ ask_reach s.now.grid s.now.elevations.now (refusal 10 first) }
 {
-    let stranded = fill::first_stranded(g, elevations, work);
-    if stranded < elevations.len() {
-        return Answer {
-            number: 18,
-            place: stranded as u32,
-        };
+    let stranded = fill::first_stranded(s, work);
+    if stranded < s.elevations.len() {
+        return Question::Chains.at(stranded as u32);
     }
-    Answer {
-        number: 10,
-        place: first as u32,
-    }
+    Question::Levels.at(first as u32)
 }
 
 // Marks the voids of the sheet, if it has any.
-fn mark_voids(g: Grid, elevations: &[i16], work: &mut [u32])
-    requires elevations_len { length elevations.now ≡ size g }
-    requires g_bound { size g < 2 ^ 24 }
-    requires cols_bound { g.cols < 2 ^ 24 }
-    requires g_in_bounds { 4 * size g ≤ length work.old }
-    ensures { Marked g elevations.now (length work.old / 2 + size g) work.new }
+fn mark_voids(s: &Sheet, work: &mut [u32])
+    requires { 4 * size s.now.grid ≤ length work.old }
+    ensures { Marked s.now.grid s.now.elevations.now (length work.old / 2 + size s.now.grid) work.new }
 {
-    if !outside::has_void(elevations) {
+    if !outside::has_void(s.elevations) {
         return;
     }
-    outside::mark(g, elevations, work);
+    outside::mark(s, work);
 }
 
 // Questions 5 to 10, with 17, 18 and 20, and after a yes the codes.
-pub fn directions(g: Grid, elevations: &[i16], codes: &mut [u8], work: &mut [u32]) -> Answer
+pub fn directions(
+    g: Grid,
+    elevations: &[i16],
+    codes: &mut [u8],
+    work: &mut [u32],
+) -> Result<(), Refusal<u32>>
     ensures { DirectionsPromise g elevations.now codes.old codes.new work.old
-        work.new result }
+        work.new (answer_of result) }
 {
     let given = elevations.len();
     let wanted = codes.len();
     let room = work.len();
-    let answer = checks::check_flow(g, given, wanted, wanted, wanted, wanted, room);
-    if answer.number != 0 {
-        return answer;
-    }
-    mark_voids(g, elevations, work);
-    let first = flow::directions_into(g, elevations, codes, work);
+    checks::check_flow(g, given, wanted, wanted, wanted, wanted, room)?;
+    let sheet = Sheet {
+        grid: g,
+        elevations,
+    };
+    mark_voids(&sheet, work);
+    let first = flow::directions_into(&sheet, codes, work);
     if first < given {
-        return lacking(g, elevations, first, work);
+        return Err(lacking(&sheet, first, work));
     }
-    answer
+    Ok(())
 }

@@ -8,7 +8,7 @@ ghost use Rattle.grid.specs.Frames.{drain_text, program_text};
 ghost use Rattle.frames.specs.Printed.{Printed};
 ghost use Rattle.drain_text.specs.Room.{Small, Lent};
 
-use grid::{Answer, Grid};
+use grid::Grid;
 
 // The four results of a sheet, in lent sheets of its size, and then as text, or the no to 18.
 fn drain_into(
@@ -24,11 +24,10 @@ fn drain_into(
     requires { Small g elevations.now out.old × Lent g filled.old codes.old counts.old labels.old work.old }
     ensures { Printed (drain_text g elevations.now) out.old out.new result }
 {
-    let answer = drainage::drain(g, elevations, filled, codes, counts, labels, work);
-    if answer.number != 0 {
-        return frames::write_refusal(answer, out);
+    match drainage::drain(g, elevations, filled, codes, counts, labels, work) {
+        Err(no) => frames::write_refusal(no.into(), out),
+        Ok(()) => frames::write_results(g, filled, codes, counts, labels, out),
     }
-    frames::write_results(g, filled, codes, counts, labels, out)
 }
 
 // The same, with local sheets.
@@ -60,14 +59,12 @@ pub fn run(text: &[u8], out: &mut [u8]) -> usize
     ensures { Printed (program_text text.now) out.old out.new result }
 {
     let mut elevations = [0i16; 2304];
-    let read = reader::read(text, &mut elevations);
-    let number = read.number;
-    let place = read.place;
-    if number != 0 {
-        return frames::write_refusal(Answer { number, place }, out);
-    }
-    let rows = read.rows as usize;
-    let cols = read.cols as usize;
+    let size = match reader::read(text, &mut elevations) {
+        Err(no) => return frames::write_refusal(no.into(), out),
+        Ok(size) => size,
+    };
+    let rows = size.rows as usize;
+    let cols = size.cols as usize;
     let n = rows * cols;
     drain_sheet(
         Grid {

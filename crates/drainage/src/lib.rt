@@ -10,11 +10,15 @@ ghost use Rattle.grid.specs.Sheet.{size};
 ghost use Rattle.grid.specs.Routes.{counts as counts', labels as labels'};
 ghost use Rattle.grid.specs.Checks.{accepted, ask_reach};
 ghost use Rattle.grid.specs.Promises.{FourResults, DrainPromise};
+ghost use Rattle.refusals.specs.Answers.{answer_of};
 ghost use Rattle.key_sort.specs.Order.{AreKeys};
 ghost use Rattle.fill.specs.Words.{sheet_in, SameVoids};
 ghost use Rattle.drainage.specs.Results.{Measured, Routable};
 
-use grid::{Answer, Grid};
+use cells::Sheet;
+use grid::Grid;
+use receivers::CodeSheet;
+use refusals::{Question, Refusal};
 
 // Counts and labels of the codes, from one list of receivers at the front of the lent tail: the counts leave it as it is, the labels take
 // its place.
@@ -24,7 +28,8 @@ fn route_results(g: Grid, codes: &[u8], counts: &mut [u32], labels: &mut [u32], 
     ensures labels_after { labels.new ≡ labels' g codes.now }
 {
     let n = g.rows * g.cols;
-    receivers::receivers_from(g, codes, tail);
+    let sheet = CodeSheet { grid: g, codes };
+    receivers::receivers_from(&sheet, tail);
     counting::counts_of(n, tail, counts);
     labelling::labels_of(n, tail, labels);
 }
@@ -39,29 +44,31 @@ pub fn drain_loaded(
     counts: &mut [u32],
     labels: &mut [u32],
     work: &mut [u32],
-) -> Answer
+) -> Result<(), Refusal<u32>>
     requires measured { Measured g (length filled.old) (length codes.old) (length counts.old) (length labels.old) (length work.old) }
     requires elevations_len { length elevations.now ≡ size g }
     requires are_keys { AreKeys (size g) work.old }
     requires same_voids { SameVoids g elevations.now work.old }
-    ensures value { result ≡ ask_reach g (sheet_in (size g) work.old) accepted }
+    ensures value { answer_of result ≡ ask_reach g (sheet_in (size g) work.old) accepted }
     ensures four_results { FourResults g (sheet_in (size g) work.old) filled.old filled.new codes.old
-        codes.new counts.old counts.new labels.old labels.new result }
+        codes.new counts.old counts.new labels.old labels.new (answer_of result) }
 {
-    let first = fill::fill_loaded(g, elevations, filled, work);
+    let sheet = Sheet {
+        grid: g,
+        elevations,
+    };
+    let first = fill::fill_loaded(&sheet, filled, work);
     if first < filled.len() {
-        return Answer {
-            number: 18,
-            place: first as u32,
-        };
+        return Err(Question::Chains.at(first as u32));
     }
-    flow::directions_into(g, filled, codes, work);
+    let drained = Sheet {
+        grid: g,
+        elevations: filled,
+    };
+    flow::directions_into(&drained, codes, work);
     let half = work.len() / 2;
     route_results(g, codes, counts, labels, &mut work[half..]);
-    Answer {
-        number: 0,
-        place: 0,
-    }
+    Ok(())
 }
 
 // "One call works filled sheet, codes, counts and labels from elevations."
@@ -73,12 +80,12 @@ pub fn drain(
     counts: &mut [u32],
     labels: &mut [u32],
     work: &mut [u32],
-) -> Answer
+) -> Result<(), Refusal<u32>>
     ensures { DrainPromise g elevations.now filled.old filled.new codes.old
         codes.new counts.old counts.new labels.old labels.new work.old
-        work.new result }
+        work.new (answer_of result) }
 {
-    let answer = checks::check_flow(
+    checks::check_flow(
         g,
         elevations.len(),
         filled.len(),
@@ -86,10 +93,7 @@ pub fn drain(
         counts.len(),
         labels.len(),
         work.len(),
-    );
-    if answer.number != 0 {
-        return answer;
-    }
+    )?;
     fill::load(elevations, work);
     drain_loaded(g, elevations, filled, codes, counts, labels, work)
 }

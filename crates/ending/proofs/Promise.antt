@@ -1,11 +1,14 @@
 -- From the answer about the lists, and the walk back, to what the call promises of the part; and the part by its place in the first list.
-use mathlib.Core.Path.{◌≡◌, sym, ◌∙◌, ap, subst}
+use mathlib.Core.Path.{◌≡◌, refl, sym, ◌∙◌, ap, subst}
+use mathlib.Core.Bool.{true, false}
 use mathlib.Core.Logic.{⊎_elim}
 use mathlib.Core.List.{List, [], append-nil}
 use Prim.Native.Nat.{ℕ, ◌-◌, ◌≤◌}
 use native.Mathlib.Omega.{arith}
 use lib.ListN.{length}
 use borrow.Author.Tests.{eq-eqb, ne_eqb}
+use Rattle.std.specs.Prelude.{Result, Ok, Err}
+use Rattle.std.specs.Result.{is_err}
 use Rattle.grid.specs.declared.Grid.{Grid}
 use Rattle.grid.specs.declared.Located.{Located}
 use Rattle.grid.specs.Checks.{is_accepted}
@@ -14,6 +17,17 @@ use Rattle.grid.specs.Promises.{ListsPromise, SharedPart, PartPromise}
 use Rattle.grid_laws.proofs.Tests.{test, T_true, true_false, cond_true, cond_false}
 use Rattle.ending_laws.proofs.Longest.{is_longest, apart_none, ending_is_rest}
 use Rattle.ending_laws.proofs.Joining.{all_routes_join}
+use Rattle.refusals.specs.declared.Refusal.{Refusal}
+use Rattle.refusals.specs.Answers.{located_of}
+use Rattle.refusals.proofs.Answers.{is_no}
+
+pub err_no : {A : Type 0} (r : Result A (Refusal ℕ)) → is_err r ≡ true → (located_of r).number ≡ 0 → ⊥
+err_no (Ok _) e = true_false e refl
+err_no (Err r) _ = is_no r
+
+pub ok_yes : {A : Type 0} (r : Result A (Refusal ℕ)) → is_err r ≡ false → (located_of r).number ≡ 0
+ok_yes (Ok _) _ = refl
+ok_yes (Err _) e = true_false refl e
 
 module _ (g : Grid) (first second : List ℕ) (r : Located) (checked : ListsPromise g first second r) where
   -- lists that are refused are no whole routes on an accepted sheet

@@ -4,20 +4,11 @@
 // (`ending_laws`).
 #![tactic(auto)]
 
-ghost use Rattle.std.specs.Prelude.{◌≡◌, min, ◌≤◌, ◌<◌, length};
+ghost use Rattle.std.specs.Prelude.{◌≡◌, ◌≤◌, ◌<◌, length};
 ghost use Rattle.grid.specs.Endings.{from_end, shared_length};
 ghost use Rattle.grid.specs.Promises.{EndingPromise};
 
 use grid::Grid;
-
-fn lesser(a: usize, b: usize) -> usize
-    ensures { result ≡ min a b }
-{
-    if a < b {
-        return a;
-    }
-    b
-}
 
 // The cell that has `k` cells after it.
 fn from_end(list: &[u32], k: usize) -> u32
@@ -33,23 +24,20 @@ fn shared_length(first: &[u32], second: &[u32]) -> usize
     ensures value { result ≡ shared_length first.now second.now }
     ensures upper_bound { result ≤ length first.now }
 {
-    let n = lesser(first.len(), second.len());
-    let mut k = 0;
-    while k < n {
+    let n = first.len().min(second.len());
+    for k in 0..n {
         if from_end(first, k) != from_end(second, k) {
             return k;
         }
-        k += 1;
     }
-    k
+    n
 }
 
 // Two lists of cells to the end of the first that both share.
 pub fn shared_ending<'a, 'b>(g: Grid, first: &'a [u32], second: &'b [u32]) -> &'a [u32]
     ensures { EndingPromise g first.entry second.entry result }
 {
-    let answer = lists::check_lists(g, first, second);
-    if answer.number != 0 {
+    if lists::check_lists(g, first, second).is_err() {
         let end = first.len();
         return &first[end..];
     }

@@ -13,12 +13,15 @@ ghost use Rattle.grid.specs.Sheet.{size, at, is_data, SixteenBits};
 ghost use Rattle.grid.specs.Outlet.{first_stranded};
 ghost use Rattle.grid.specs.Fill.{filled as filled'};
 ghost use Rattle.grid.specs.Promises.{FillPromise};
+ghost use Rattle.refusals.specs.Answers.{answer_of};
 ghost use Rattle.cells.specs.Keys.{key_of, level_of};
 ghost use Rattle.cells.specs.Marks.{Marked};
 ghost use Rattle.key_sort.specs.Order.{AreKeys, Sorted};
 ghost use Rattle.fill.specs.Words.{sheet_in, SameVoids, Words, is_unreached};
 
-use grid::{Answer, Grid};
+use cells::Sheet;
+use grid::Grid;
+use refusals::{Question, Refusal};
 
 // Puts the keys of the elevations first into the work buffer.
 pub fn load(elevations: &[i16], work: &mut [u32])
@@ -27,10 +30,8 @@ pub fn load(elevations: &[i16], work: &mut [u32])
         get_or work.new c 0 ≡ key_of (at elevations.now c) }
     ensures sixteen_bits { SixteenBits elevations.now }
 {
-    let mut i: usize = 0;
-    while i < elevations.len() {
-        work[i] = cells::key_at(elevations, i);
-        i += 1;
+    for i in 0..elevations.len() {
+        work[i] = cells::key_at(elevations, i) as u32;
     }
 }
 
@@ -50,12 +51,10 @@ fn first_unreached(n: usize, work: &[u32]) -> usize
     requires n_bound { n < 2 ^ 24 }
     ensures { result ≡ first_below n (is_unreached work.now) }
 {
-    let mut c: usize = 0;
-    while c < n {
+    for c in 0..n {
         if is_unreached(work[c]) {
             return c;
         }
-        c += 1;
     }
     n
 }
@@ -76,21 +75,18 @@ fn lowest_is_void(n: usize, work: &[u32]) -> bool
 
 // Marks the voids of the sheet whose keys stand in order in the work buffer, if it has any; whether it may have. `elevations` has the same
 // voids.
-fn mark_voids(g: Grid, elevations: &[i16], work: &mut [u32]) -> bool
-    requires elevations_len { length elevations.now ≡ size g }
-    requires g_bound { size g < 2 ^ 24 }
-    requires cols_bound { g.cols < 2 ^ 24 }
-    requires g_in_bounds { 4 * size g ≤ length work.old }
-    requires sorted { Sorted (size g) work.old }
-    requires same_voids { SameVoids g elevations.now work.old }
-    ensures marked { Marked g elevations.now (length work.old / 2 + size g) work.new }
-    ensures c_value { result ≡ false → (c : ℕ) → c < size g → is_data elevations.now c ≡ true }
+fn mark_voids(s: &Sheet, work: &mut [u32]) -> bool
+    requires g_in_bounds { 4 * size s.now.grid ≤ length work.old }
+    requires sorted { Sorted (size s.now.grid) work.old }
+    requires same_voids { SameVoids s.now.grid s.now.elevations.now work.old }
+    ensures marked { Marked s.now.grid s.now.elevations.now (length work.old / 2 + size s.now.grid) work.new }
+    ensures c_value { result ≡ false → (c : ℕ) → c < size s.now.grid → is_data s.now.elevations.now c ≡ true }
     ensures by_index { (i : ℕ) → i < length work.old / 2 → get_or work.new i 0 ≡ get_or work.old i 0 }
 {
-    if !lowest_is_void(g.rows * g.cols, work) {
+    if !lowest_is_void(s.grid.rows * s.grid.cols, work) {
         return false;
     }
-    outside::mark(g, elevations, work);
+    outside::mark(s, work);
     true
 }
 
@@ -106,23 +102,20 @@ fn all_drain(g: Grid, voids: bool) -> bool
 
 // Floods the sheet whose keys stand in the work buffer: the first stranded cell, or the number of cells, and then each word is the cell's
 // key, and above it the filled one. `elevations` has the same voids; their marks stay.
-fn fill_words(g: Grid, elevations: &[i16], work: &mut [u32]) -> usize
-    requires elevations_len { length elevations.now ≡ size g }
-    requires g_bound { size g < 2 ^ 24 }
-    requires cols_bound { g.cols < 2 ^ 24 }
-    requires g_in_bounds { 4 * size g ≤ length work.old }
-    requires are_keys { AreKeys (size g) work.old }
-    requires same_voids { SameVoids g elevations.now work.old }
-    ensures value { result ≡ first_stranded g (sheet_in (size g) work.old) }
-    ensures words { result ≡ size g → Words g (sheet_in (size g) work.old) work.new }
-    ensures marked { Marked g (sheet_in (size g) work.old) (length work.old / 2 + size g) work.new }
+fn fill_words(s: &Sheet, work: &mut [u32]) -> usize
+    requires g_in_bounds { 4 * size s.now.grid ≤ length work.old }
+    requires are_keys { AreKeys (size s.now.grid) work.old }
+    requires same_voids { SameVoids s.now.grid s.now.elevations.now work.old }
+    ensures value { result ≡ first_stranded s.now.grid (sheet_in (size s.now.grid) work.old) }
+    ensures words { result ≡ size s.now.grid → Words s.now.grid (sheet_in (size s.now.grid) work.old) work.new }
+    ensures marked { Marked s.now.grid (sheet_in (size s.now.grid) work.old) (length work.old / 2 + size s.now.grid) work.new }
 {
-    let n = g.rows * g.cols;
+    let n = s.grid.rows * s.grid.cols;
     let half = work.len() / 2;
     key_sort::sort(n, work);
-    let voids = mark_voids(g, elevations, work);
-    flood::flood(g, half, work);
-    if all_drain(g, voids) {
+    let voids = mark_voids(s, work);
+    flood::flood(s.grid, half, work);
+    if all_drain(s.grid, voids) {
         return n;
     }
     first_unreached(n, work)
@@ -134,30 +127,25 @@ fn unload(n: usize, work: &[u32], filled: &mut [i16])
     requires filled_len { length filled.old ≡ n }
     ensures { (c : ℕ) → c < n → at filled.new c ≡ level_of (get_or work.now c 0 / 65536) }
 {
-    let mut i: usize = 0;
-    while i < n {
+    for i in 0..n {
         filled[i] = cells::elevation(work[i] / 65536);
-        i += 1;
     }
 }
 
 // Fills the sheet whose keys stand in the work buffer into `filled`: the first stranded cell, and then nothing is written, or the number of
 // cells. `elevations` has the same voids; their marks stay.
-pub fn fill_loaded(g: Grid, elevations: &[i16], filled: &mut [i16], work: &mut [u32]) -> usize
-    requires elevations_len { length elevations.now ≡ size g }
-    requires g_bound { size g < 2 ^ 24 }
-    requires cols_bound { g.cols < 2 ^ 24 }
-    requires filled_len { length filled.old ≡ size g }
-    requires g_in_bounds { 4 * size g ≤ length work.old }
-    requires are_keys { AreKeys (size g) work.old }
-    requires same_voids { SameVoids g elevations.now work.old }
-    ensures value { result ≡ first_stranded g (sheet_in (size g) work.old) }
+pub fn fill_loaded(s: &Sheet, filled: &mut [i16], work: &mut [u32]) -> usize
+    requires filled_len { length filled.old ≡ size s.now.grid }
+    requires g_in_bounds { 4 * size s.now.grid ≤ length work.old }
+    requires are_keys { AreKeys (size s.now.grid) work.old }
+    requires same_voids { SameVoids s.now.grid s.now.elevations.now work.old }
+    ensures value { result ≡ first_stranded s.now.grid (sheet_in (size s.now.grid) work.old) }
     ensures filled_after { filled.new
-        ≡ cond (eqb result (size g)) (filled' g (sheet_in (size g) work.old)) filled.old }
-    ensures marked { Marked g (sheet_in (size g) work.old) (length work.old / 2 + size g) work.new }
+        ≡ cond (eqb result (size s.now.grid)) (filled' s.now.grid (sheet_in (size s.now.grid) work.old)) filled.old }
+    ensures marked { Marked s.now.grid (sheet_in (size s.now.grid) work.old) (length work.old / 2 + size s.now.grid) work.new }
 {
-    let n = g.rows * g.cols;
-    let first = fill_words(g, elevations, work);
+    let n = s.grid.rows * s.grid.cols;
+    let first = fill_words(s, work);
     if first < n {
         return first;
     }
@@ -166,52 +154,49 @@ pub fn fill_loaded(g: Grid, elevations: &[i16], filled: &mut [i16], work: &mut [
 }
 
 // Loads a sheet and floods it: the first stranded cell, or the number of cells, and then the words of its filled sheet.
-pub fn fill_sheet(g: Grid, elevations: &[i16], work: &mut [u32]) -> usize
-    requires g_bound { size g < 2 ^ 24 }
-    requires cols_bound { g.cols < 2 ^ 24 }
-    requires elevations_len { length elevations.now ≡ size g }
-    requires g_in_bounds { 4 * size g ≤ length work.old }
-    ensures value { result ≡ first_stranded g elevations.now }
-    ensures words { result ≡ size g → Words g elevations.now work.new }
-    ensures sixteen_bits { SixteenBits elevations.now }
+pub fn fill_sheet(s: &Sheet, work: &mut [u32]) -> usize
+    requires { 4 * size s.now.grid ≤ length work.old }
+    ensures value { result ≡ first_stranded s.now.grid s.now.elevations.now }
+    ensures words { result ≡ size s.now.grid → Words s.now.grid s.now.elevations.now work.new }
+    ensures sixteen_bits { SixteenBits s.now.elevations.now }
 {
-    load(elevations, work);
-    fill_words(g, elevations, work)
+    load(s.elevations, work);
+    fill_words(s, work)
 }
 
 // Question 18: the first data cell that has no chain to an outlet, or the number of cells.
-pub fn first_stranded(g: Grid, elevations: &[i16], work: &mut [u32]) -> usize
-    requires g_bound { size g < 2 ^ 24 }
-    requires cols_bound { g.cols < 2 ^ 24 }
-    requires elevations_len { length elevations.now ≡ size g }
-    requires g_in_bounds { 4 * size g ≤ length work.old }
-    ensures { result ≡ first_stranded g elevations.now }
+pub fn first_stranded(s: &Sheet, work: &mut [u32]) -> usize
+    requires { 4 * size s.now.grid ≤ length work.old }
+    ensures { result ≡ first_stranded s.now.grid s.now.elevations.now }
 {
-    if all_drain(g, outside::has_void(elevations)) {
-        return elevations.len();
+    if all_drain(s.grid, outside::has_void(s.elevations)) {
+        return s.elevations.len();
     }
-    fill_sheet(g, elevations, work)
+    fill_sheet(s, work)
 }
 
 // Questions 5 to 9, with 17, then 18, and after a yes the filled sheet.
-pub fn fill(g: Grid, elevations: &[i16], filled: &mut [i16], work: &mut [u32]) -> Answer
+pub fn fill(
+    g: Grid,
+    elevations: &[i16],
+    filled: &mut [i16],
+    work: &mut [u32],
+) -> Result<(), Refusal<u32>>
     ensures { FillPromise g elevations.now filled.old filled.new work.old
-        work.new result }
+        work.new (answer_of result) }
 {
     let given = elevations.len();
     let wanted = filled.len();
     let room = work.len();
-    let answer = checks::check_outlets(g, given, wanted, wanted, wanted, wanted, room);
-    if answer.number != 0 {
-        return answer;
-    }
+    checks::check_outlets(g, given, wanted, wanted, wanted, wanted, room)?;
+    let sheet = Sheet {
+        grid: g,
+        elevations,
+    };
     load(elevations, work);
-    let first = fill_loaded(g, elevations, filled, work);
+    let first = fill_loaded(&sheet, filled, work);
     if first < given {
-        return Answer {
-            number: 18,
-            place: first as u32,
-        };
+        return Err(Question::Chains.at(first as u32));
     }
-    answer
+    Ok(())
 }

@@ -3,19 +3,25 @@ use mathlib.Core.Path.{◌≡◌, sym, ◌∙◌}
 use mathlib.Core.Bool.{Bool, true, false, true≢false}
 use mathlib.Core.Logic.{◌⊎◌, inl, inr, ⊎_elim}
 use mathlib.Core.List.{List}
-use Prim.Native.Nat.{ℕ, ◌+◌, ◌*◌, ◌/◌, ◌%◌, ◌≤◌, ◌<◌}
+use Prim.Native.Nat.{ℕ, ◌+◌, ◌*◌, ◌/◌, ◌%◌, ◌^◌, ◌≤◌, ◌<◌}
+use native.Mathlib.Nat.{div-le_self, mod-le}
 use native.Mathlib.Omega.{arith}
 use lib.ListN.{length, get_or, set}
 use lib.Dec.{eqb}
 use borrow.Author.Tests.{eqb-true, eqb-false}
 use Rattle.grid.specs.declared.Grid.{Grid}
 use Rattle.grid.specs.Sheet.{size}
+use Rattle.grid_laws.proofs.Neighbours.{cols_positive}
 use Rattle.key_sort.specs.Order.{Sorted}
 use Rattle.flood_laws.specs.Flood.{CellOf, Wanted, Touched, OutsideOrReached, Opening, During, Spread, Between}
 use Rattle.flood_laws.specs.Packed.{front_of, back_of}
 use Rattle.flood_laws.proofs.Steps.{spread_none, during_first, during_most, skip_void, skip_reached, skip_closed, between_room}
 use Rattle.flood_laws.proofs.Steps.{reach_first, drained}
 use Rattle.flood_laws.proofs.Packed.{front_key, front_order, front_mark, back_queue, back_level, back_length, front_same, back_set}
+
+-- the row and the column of a cell, as the test for the border asks for them
+pub row_column : (g : Grid) (c : ℕ) → size g < 2 ^ 24 → c < size g → (0 < g.cols) × (c / g.cols < 2 ^ 24) × (c % g.cols < 2 ^ 24)
+row_column g c few h = (cols_positive g c h, omega (arith, div-le_self c g.cols), omega (arith, mod-le c g.cols))
 
 module _ (n half v m : ℕ) (w : List ℕ) where
   abbrev pub NoWanted : Type 0
@@ -25,9 +31,6 @@ module _ (n half v m : ℕ) (w : List ℕ) where
 
   deny : (CellOf n (front_of n half w) m → (0 < get_or (back_of n half w) (n + m) 0) ⊎ (v < get_or (front_of n half w) m 0)) → NoWanted
   deny h = (λ e. absurd (true≢false (sym e)), λ e. h)
-
-  pub off_sheet : n ≤ m → NoWanted
-  off_sheet h = deny (λ t. let y = t.0 in let z : ⊥ = omega arith in absurd z)
 
   pub void_there : get_or w m 0 ≡ 0 → NoWanted
   void_there e = deny (λ t. let y = t.1 in let q = front_key n half w m t.0 in let z : ⊥ = omega arith in absurd z)
@@ -97,8 +100,13 @@ module _ (g : Grid) (half k v head len : ℕ) (f w : List ℕ) (D : During g f (
   first_is : head < len → get_or (back_of (size g) half w) head 0 ≡ get_or w (half + head) 0
   first_is h = back_queue (size g) half w head (let y = first_less in omega arith)
 
-  pub first_on : head < len → get_or w (half + head) 0 < size g
+  first_on : head < len → get_or w (half + head) 0 < size g
   first_on h = let t = during_first g f (back_of (size g) half w) k v head len D h in rw (first_is h) at t.0
+
+  -- with its row and column
+  pub first_here : size g < 2 ^ 24 → head < len → (get_or w (half + head) 0 < size g) × (0 < g.cols)
+      × (get_or w (half + head) 0 / g.cols < 2 ^ 24) × (get_or w (half + head) 0 % g.cols < 2 ^ 24)
+  first_here few h = let r = row_column g (get_or w (half + head) 0) few (first_on h) in (first_on h, r.0, r.1, r.2)
 
   pub spread_start : head < len → Spread g f (back_of (size g) half w) k v head len (get_or w (half + head) 0) 0
   spread_start h =

@@ -8,10 +8,11 @@ ghost use Rattle.std.specs.Prelude.{◌≡◌, true, false, ◌⊎◌, ℕ, ◌+
 ghost use Rattle.grid.specs.Sheet.{size};
 ghost use Rattle.key_sort.specs.Order.{Sorted};
 ghost use Rattle.flood_laws.specs.Flood.{CellOf, Between, During, Spread, Wanted, Touched, Room};
-ghost use Rattle.flood_laws.specs.Flood.{ReachedAreData, OutsideOrReached, Opens, Opening};
+ghost use Rattle.flood_laws.specs.Flood.{ReachedAreData, OutsideOrReached, Opening};
 ghost use Rattle.flood_laws.specs.Packed.{front_of, back_of};
-ghost use Rattle.cells.specs.Steps.{Inner, Offsets};
+ghost use Rattle.cells.specs.Steps.{Inner};
 
+use cells::Raster;
 use grid::Grid;
 
 // Whether the cell `m` holds data, is not reached and has a key of at most `v`.
@@ -67,59 +68,9 @@ fn touch(n: usize, half: usize, v: u32, len: usize, m: usize, work: &mut [u32]) 
     reach(n, half, v, len, m, work)
 }
 
-// The same for what may lie off the sheet.
-fn touch_any(n: usize, half: usize, v: u32, len: usize, m: usize, work: &mut [u32]) -> usize
-    requires n_bound { n < 2 ^ 24 }
-    requires n_bound_2 { n + n ≤ half }
-    requires n_in_bounds { half + n ≤ length work.old }
-    requires v_bound { v < 65536 }
-    requires room { Room n (back_of n half work.old) len }
-    ensures front_unchanged { front_of n half work.new ≡ front_of n half work.old }
-    ensures touched { Touched n (front_of n half work.old) (back_of n half work.old) (back_of n half work.new) v
-        len m result }
-{
-    if m >= n {
-        return len;
-    }
-    touch(n, half, v, len, m, work)
-}
-
-// Reaches what is wanted beside `x`, the queue's cell at `head`, which lies within the border.
-fn spread_inner(
-    g: Grid,
-    half: usize,
-    k: usize,
-    v: u32,
-    head: usize,
-    len: usize,
-    x: usize,
-    offsets: &[usize; 8],
-    work: &mut [u32],
-) -> usize
-    requires g_bound { size g < 2 ^ 24 }
-    requires g_bound_2 { size g + size g ≤ half }
-    requires g_in_bounds { half + size g ≤ length work.old }
-    requires v_bound { v < 65536 }
-    requires spread { Spread g (front_of (size g) half work.old) (back_of (size g) half work.old) k v head len x 0 }
-    requires inner { Inner g (x / g.cols) (x % g.cols) }
-    requires offsets { Offsets g.cols offsets.now }
-    ensures front_unchanged { front_of (size g) half work.new ≡ front_of (size g) half work.old }
-    ensures during { During g (front_of (size g) half work.old) (back_of (size g) half work.new) k v (head + 1) result }
-{
-    let n = g.rows * g.cols;
-    let mut tail = len;
-    let mut p: usize = 0;
-    while p < 8 {
-        let m = cells::beside(g, offsets, x, p);
-        tail = touch(n, half, v, tail, m, work);
-        p += 1;
-    }
-    tail
-}
-
-// The same for a cell on the border.
-fn spread_border(
-    g: Grid,
+// Reaches what is wanted beside `x`, the queue's cell at `head`. INNER says that it lies within the border (`Raster::near`).
+fn spread_around<const INNER: bool>(
+    r: &Raster,
     half: usize,
     k: usize,
     v: u32,
@@ -128,79 +79,73 @@ fn spread_border(
     x: usize,
     work: &mut [u32],
 ) -> usize
-    requires g_bound { size g < 2 ^ 24 }
-    requires g_bound_2 { size g + size g ≤ half }
-    requires g_in_bounds { half + size g ≤ length work.old }
+    requires g_bound_2 { size r.now.grid + size r.now.grid ≤ half }
+    requires g_in_bounds { half + size r.now.grid ≤ length work.old }
     requires v_bound { v < 65536 }
-    requires spread { Spread g (front_of (size g) half work.old) (back_of (size g) half work.old) k v head len x 0 }
-    requires x_bound { x < size g }
-    ensures front_unchanged { front_of (size g) half work.new ≡ front_of (size g) half work.old }
-    ensures during { During g (front_of (size g) half work.old) (back_of (size g) half work.new) k v (head + 1) result }
+    requires spread { Spread r.now.grid (front_of (size r.now.grid) half work.old) (back_of (size r.now.grid) half work.old) k v head len x 0 }
+    requires x_bound { x < size r.now.grid }
+    requires inner { INNER ≡ true → Inner r.now.grid (x / r.now.grid.cols) (x % r.now.grid.cols) }
+    ensures front_unchanged { front_of (size r.now.grid) half work.new ≡ front_of (size r.now.grid) half work.old }
+    ensures during { During r.now.grid (front_of (size r.now.grid) half work.old) (back_of (size r.now.grid) half work.new) k v (head + 1) result }
 {
-    let n = g.rows * g.cols;
+    let n = r.grid.rows * r.grid.cols;
     let mut tail = len;
-    let mut p: usize = 0;
-    while p < 8 {
-        let m = cells::neighbour(g, x, p);
-        tail = touch_any(n, half, v, tail, m, work);
-        p += 1;
+    for p in 0..8 {
+        if let Some(m) = r.near::<INNER>(x, p) {
+            tail = touch(n, half, v, tail, m, work);
+        }
     }
     tail
 }
 
 // Reaches what is wanted beside the queue's cell at `head`.
 fn spread(
-    g: Grid,
+    r: &Raster,
     half: usize,
     k: usize,
     v: u32,
     head: usize,
     len: usize,
-    offsets: &[usize; 8],
     work: &mut [u32],
 ) -> usize
-    requires g_bound { size g < 2 ^ 24 }
-    requires g_bound_2 { size g + size g ≤ half }
-    requires g_in_bounds { half + size g ≤ length work.old }
+    requires g_bound_2 { size r.now.grid + size r.now.grid ≤ half }
+    requires g_in_bounds { half + size r.now.grid ≤ length work.old }
     requires v_bound { v < 65536 }
     requires head_lt_len { head < len }
-    requires during { During g (front_of (size g) half work.old) (back_of (size g) half work.old) k v head len }
-    requires offsets { Offsets g.cols offsets.now }
-    ensures front_unchanged { front_of (size g) half work.new ≡ front_of (size g) half work.old }
-    ensures during_2 { During g (front_of (size g) half work.old) (back_of (size g) half work.new) k v (head + 1) result }
+    requires during { During r.now.grid (front_of (size r.now.grid) half work.old) (back_of (size r.now.grid) half work.old) k v head len }
+    ensures front_unchanged { front_of (size r.now.grid) half work.new ≡ front_of (size r.now.grid) half work.old }
+    ensures during_2 { During r.now.grid (front_of (size r.now.grid) half work.old) (back_of (size r.now.grid) half work.new) k v (head + 1) result }
 {
-    let cols = g.cols;
+    let cols = r.grid.cols;
     let x = work[half + head] as usize;
-    if cells::is_inner(g, x / cols, x % cols) {
-        return spread_inner(g, half, k, v, head, len, x, offsets, work);
+    if cells::is_inner(r.grid, x / cols, x % cols) {
+        spread_around::<true>(r, half, k, v, head, len, x, work)
+    } else {
+        spread_around::<false>(r, half, k, v, head, len, x, work)
     }
-    spread_border(g, half, k, v, head, len, x, work)
 }
 
 // Empties the queue from `start` on.
 fn drain(
-    g: Grid,
+    r: &Raster,
     half: usize,
     k: usize,
     v: u32,
     start: usize,
     len: usize,
-    offsets: &[usize; 8],
     work: &mut [u32],
 ) -> usize
-    requires g_bound { size g < 2 ^ 24 }
-    requires g_bound_2 { size g + size g ≤ half }
-    requires g_in_bounds { half + size g ≤ length work.old }
+    requires g_bound_2 { size r.now.grid + size r.now.grid ≤ half }
+    requires g_in_bounds { half + size r.now.grid ≤ length work.old }
     requires v_bound { v < 65536 }
-    requires during { During g (front_of (size g) half work.old) (back_of (size g) half work.old) k v start len }
-    requires offsets { Offsets g.cols offsets.now }
-    ensures front_unchanged { front_of (size g) half work.new ≡ front_of (size g) half work.old }
-    ensures during_2 { During g (front_of (size g) half work.old) (back_of (size g) half work.new) k v result result }
+    requires during { During r.now.grid (front_of (size r.now.grid) half work.old) (back_of (size r.now.grid) half work.old) k v start len }
+    ensures front_unchanged { front_of (size r.now.grid) half work.new ≡ front_of (size r.now.grid) half work.old }
+    ensures during_2 { During r.now.grid (front_of (size r.now.grid) half work.old) (back_of (size r.now.grid) half work.new) k v result result }
 {
     let mut head = start;
     let mut tail = len;
     while head < tail {
-        tail = spread(g, half, k, v, head, tail, offsets, work);
+        tail = spread(r, half, k, v, head, tail, work);
         head += 1;
     }
     tail
@@ -223,107 +168,60 @@ fn opens(n: usize, half: usize, m: usize, work: &[u32]) -> bool
     true
 }
 
-// Whether a step at the position `p` that leads to `m` opens: off the sheet through an open side, or to a void outside or a reached cell.
-fn opens_any(g: Grid, n: usize, half: usize, p: usize, m: usize, work: &[u32]) -> bool
-    requires n_value { n ≡ size g }
-    requires g_in_bounds { half + size g + size g ≤ length work.now }
-    requires p_bound { p < 8 }
-    requires m_bound { m ≤ size g }
-    ensures opens { result ≡ true → Opens g (front_of (size g) half work.now) (back_of (size g) half work.now) p m }
-    ensures fact { result ≡ false → Opens g (front_of (size g) half work.now) (back_of (size g) half work.now) p m
+// `is_opening`, step by step. INNER says that the cell lies within the border, from which no step leads off the sheet; from a cell on it
+// such a step leaves only through an open side.
+fn opening_around<const INNER: bool>(r: &Raster, half: usize, c: usize, work: &[u32]) -> bool
+    requires g_in_bounds { half + size r.now.grid + size r.now.grid ≤ length work.now }
+    requires reached_are_data { ReachedAreData (size r.now.grid) (front_of (size r.now.grid) half work.now) (back_of (size r.now.grid) half work.now) }
+    requires cell_of { CellOf (size r.now.grid) (front_of (size r.now.grid) half work.now) c }
+    requires inner { INNER ≡ true → Inner r.now.grid (c / r.now.grid.cols) (c % r.now.grid.cols) }
+    ensures opening { result ≡ true → Opening r.now.grid (front_of (size r.now.grid) half work.now) (back_of (size r.now.grid) half work.now) c }
+    ensures fact { result ≡ false → Opening r.now.grid (front_of (size r.now.grid) half work.now) (back_of (size r.now.grid) half work.now) c
         → ⊥ }
 {
-    if m >= n {
-        return cells::is_open(g, p);
-    }
-    opens(n, half, m, work)
-}
-
-// `is_opening` for a cell within the border, from which no step leads off the sheet: one leaves where it leads to a void outside.
-fn opening_inner(g: Grid, half: usize, c: usize, offsets: &[usize; 8], work: &[u32]) -> bool
-    requires g_bound { size g < 2 ^ 24 }
-    requires g_in_bounds { half + size g + size g ≤ length work.now }
-    requires reached_are_data { ReachedAreData (size g) (front_of (size g) half work.now) (back_of (size g) half work.now) }
-    requires cell_of { CellOf (size g) (front_of (size g) half work.now) c }
-    requires inner { Inner g (c / g.cols) (c % g.cols) }
-    requires offsets { Offsets g.cols offsets.now }
-    ensures opening { result ≡ true → Opening g (front_of (size g) half work.now) (back_of (size g) half work.now) c }
-    ensures fact { result ≡ false → Opening g (front_of (size g) half work.now) (back_of (size g) half work.now) c
-        → ⊥ }
-{
-    let n = g.rows * g.cols;
-    let mut p: usize = 0;
-    while p < 8 {
-        let m = cells::beside(g, offsets, c, p);
-        if opens(n, half, m, work) {
+    let n = r.grid.rows * r.grid.cols;
+    for p in 0..8 {
+        let open = match r.near::<INNER>(c, p) {
+            Some(m) => opens(n, half, m, work),
+            None => cells::is_open(r.grid, p),
+        };
+        if open {
             return true;
         }
-        p += 1;
-    }
-    false
-}
-
-// `is_opening` for a cell on the border, where a step off the sheet leaves only through an open side.
-fn opening_border(g: Grid, half: usize, c: usize, work: &[u32]) -> bool
-    requires g_bound { size g < 2 ^ 24 }
-    requires g_in_bounds { half + size g + size g ≤ length work.now }
-    requires reached_are_data { ReachedAreData (size g) (front_of (size g) half work.now) (back_of (size g) half work.now) }
-    requires cell_of { CellOf (size g) (front_of (size g) half work.now) c }
-    ensures opening { result ≡ true → Opening g (front_of (size g) half work.now) (back_of (size g) half work.now) c }
-    ensures fact { result ≡ false → Opening g (front_of (size g) half work.now) (back_of (size g) half work.now) c
-        → ⊥ }
-{
-    let n = g.rows * g.cols;
-    let mut p: usize = 0;
-    while p < 8 {
-        let m = cells::neighbour(g, c, p);
-        if opens_any(g, n, half, p, m, work) {
-            return true;
-        }
-        p += 1;
     }
     false
 }
 
 // Whether the data cell `c` is an outlet or beside a reached cell. Both are asked step by step: a step leaves, which makes `c` an outlet,
 // or leads to a reached cell.
-fn is_opening(g: Grid, half: usize, c: usize, offsets: &[usize; 8], work: &[u32]) -> bool
-    requires g_bound { size g < 2 ^ 24 }
-    requires g_in_bounds { half + size g + size g ≤ length work.now }
-    requires reached_are_data { ReachedAreData (size g) (front_of (size g) half work.now) (back_of (size g) half work.now) }
-    requires cell_of { CellOf (size g) (front_of (size g) half work.now) c }
-    requires offsets { Offsets g.cols offsets.now }
-    ensures opening { result ≡ true → Opening g (front_of (size g) half work.now) (back_of (size g) half work.now) c }
-    ensures fact { result ≡ false → Opening g (front_of (size g) half work.now) (back_of (size g) half work.now) c
+#[tactic(auto, using(crate::proofs::Halves::row_column))]
+fn is_opening(r: &Raster, half: usize, c: usize, work: &[u32]) -> bool
+    requires g_in_bounds { half + size r.now.grid + size r.now.grid ≤ length work.now }
+    requires reached_are_data { ReachedAreData (size r.now.grid) (front_of (size r.now.grid) half work.now) (back_of (size r.now.grid) half work.now) }
+    requires cell_of { CellOf (size r.now.grid) (front_of (size r.now.grid) half work.now) c }
+    ensures opening { result ≡ true → Opening r.now.grid (front_of (size r.now.grid) half work.now) (back_of (size r.now.grid) half work.now) c }
+    ensures fact { result ≡ false → Opening r.now.grid (front_of (size r.now.grid) half work.now) (back_of (size r.now.grid) half work.now) c
         → ⊥ }
 {
-    let cols = g.cols;
-    if cells::is_inner(g, c / cols, c % cols) {
-        return opening_inner(g, half, c, offsets, work);
+    let cols = r.grid.cols;
+    if cells::is_inner(r.grid, c / cols, c % cols) {
+        opening_around::<true>(r, half, c, work)
+    } else {
+        opening_around::<false>(r, half, c, work)
     }
-    opening_border(g, half, c, work)
 }
 
 // Reaches the cell at the place `k` of the order, if it is an outlet or beside a reached cell, and what follows from that.
-fn visit(
-    g: Grid,
-    half: usize,
-    k: usize,
-    len: usize,
-    offsets: &[usize; 8],
-    work: &mut [u32],
-) -> usize
-    requires g_bound { size g < 2 ^ 24 }
-    requires g_bound_2 { size g + size g ≤ half }
-    requires g_in_bounds { half + size g + size g ≤ length work.old }
-    requires k_bound { k < size g }
-    requires sorted { Sorted (size g) (front_of (size g) half work.old) }
-    requires between { Between g (front_of (size g) half work.old) (back_of (size g) half work.old) k len }
-    requires offsets { Offsets g.cols offsets.now }
-    ensures front_unchanged { front_of (size g) half work.new ≡ front_of (size g) half work.old }
-    ensures between_2 { Between g (front_of (size g) half work.old) (back_of (size g) half work.new) (k + 1) result }
+fn visit(r: &Raster, half: usize, k: usize, len: usize, work: &mut [u32]) -> usize
+    requires g_bound_2 { size r.now.grid + size r.now.grid ≤ half }
+    requires g_in_bounds { half + size r.now.grid + size r.now.grid ≤ length work.old }
+    requires k_bound { k < size r.now.grid }
+    requires sorted { Sorted (size r.now.grid) (front_of (size r.now.grid) half work.old) }
+    requires between { Between r.now.grid (front_of (size r.now.grid) half work.old) (back_of (size r.now.grid) half work.old) k len }
+    ensures front_unchanged { front_of (size r.now.grid) half work.new ≡ front_of (size r.now.grid) half work.old }
+    ensures between_2 { Between r.now.grid (front_of (size r.now.grid) half work.old) (back_of (size r.now.grid) half work.new) (k + 1) result }
 {
-    let n = g.rows * g.cols;
+    let n = r.grid.rows * r.grid.cols;
     let c = work[n + k] as usize;
     let v = work[c];
     if v == 0 {
@@ -332,11 +230,11 @@ fn visit(
     if v >= 65536 {
         return len;
     }
-    if !is_opening(g, half, c, offsets, work) {
+    if !is_opening(r, half, c, work) {
         return len;
     }
     let more = reach(n, half, v, len, c, work);
-    drain(g, half, k, v, len, more, offsets, work)
+    drain(r, half, k, v, len, more, work)
 }
 
 // Floods the sheet, whose cells stand in order of key in the work buffer after their keys, and the marks of its voids after the queue.
@@ -352,11 +250,9 @@ pub fn flood(g: Grid, half: usize, work: &mut [u32])
         len }
 {
     let n = g.rows * g.cols;
-    let offsets = cells::offsets(g.cols);
+    let r = Raster::new(g);
     let mut len: usize = 0;
-    let mut k: usize = 0;
-    while k < n {
-        len = visit(g, half, k, len, &offsets, work);
-        k += 1;
+    for k in 0..n {
+        len = visit(&r, half, k, len, work);
     }
 }

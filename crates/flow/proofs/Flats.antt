@@ -1,6 +1,6 @@
 -- The sum over the equal neighbours one level lower, and the code of a cell.
 use mathlib.Core.Path.{◌≡◌, refl, sym, ◌∙◌, ap, subst}
-use mathlib.Core.Bool.{Bool, true, false, cond, ◌&&◌, ◌||◌}
+use mathlib.Core.Bool.{Bool, true, false, true≢false, cond, ◌&&◌, ◌||◌}
 use mathlib.Core.Logic.{inl, inr, ⊎_elim}
 use mathlib.Core.List.{List}
 use Prim.Native.Nat.{ℕ, suc, ◌+◌, ◌-◌, ◌%◌, ◌≤◌, ◌<◌}
@@ -10,27 +10,25 @@ use native.Mathlib.Decide.{ℕ_discrete}
 use lib.Dec.{eqb, ltb}
 use lib.ListN.{length, get_or}
 use lib.Seq.{get_or-take}
-use lib.IntN.{ℤ, pos}
+use lib.IntN.{ℤ}
+use lib.Signed.{◌≤ℤ◌}
 use borrow.Author.Tests.{eq-eqb, eqb-true, lt-ltb, ltb-true}
-use mir.Syntax.{w16}
-use mir.Val.{SFits, to_z, of_z}
 use Rattle.grid.specs.declared.Grid.{Grid}
 use Rattle.grid.specs.Below.{sum_below}
-use Rattle.grid.specs.Sheet.{size, at, is_data, neighbour, code_at}
+use Rattle.grid.specs.Sheet.{size, void, at, is_data, neighbour, code_at}
 use Rattle.grid.specs.Outlet.{is_outlet}
 use Rattle.grid.specs.Directions.{is_equal, is_level_zero, has_descent, choice, flat_sum, direction_at}
-use Rattle.grid_laws.proofs.Tests.{test, and_true, and_left, and_right, same_test, cond_true, cond_false}
+use Rattle.grid_laws.proofs.Tests.{test, true_false, and_true, and_left, and_right, same_test, cond_true, cond_false}
 use Rattle.grid_laws.proofs.Below.{at_table, sum_suc}
 use Rattle.grid_laws.proofs.Neighbours.{at_eight}
-use Rattle.cells.specs.Keys.{level_of}
-use Rattle.cells.proofs.Keys.{Known}
+use Rattle.cells.specs.Keys.{key_of, level_of}
+use Rattle.cells.proofs.Keys.{zero_no_data}
 use Rattle.flow_laws.specs.Words.{void_word, word_level, level_in, levels_in, Levelled}
 use Rattle.flow_laws.proofs.Agree.{equal_on_sheet}
 use Rattle.flow_laws.proofs.Equals.{is_equal_lem, equal_height}
 use Rattle.flow_laws.proofs.Leads.{is_below, flat_direction, void_code, zero_code_any}
 use Rattle.flow_laws.proofs.Words.{level_one, level_more, WordCases, word_cases}
-use Rattle.levels.proofs.Keyed.{height_data, key_read, data_known}
-use Rattle.flow.specs.Coding.{CodesTo}
+use Rattle.levels.proofs.Keyed.{agrees, height_data, off_height}
 
 -- ---- two words: one is one level below the other, where it is from `low` on below it
 module _ (near low word : ℕ) (high : 257 ≤ word) (one : word ≡ 257 → low ≡ 1) (more : 257 < word → low + 1 ≡ word) where
@@ -65,20 +63,6 @@ module _ (near low word : ℕ) (high : 257 ≤ word) (one : word ≡ 257 → low
 -- ---- the sum, from position to position
 pub code_doubles : (p : ℕ) → p < 8 → code_at (p + 1) ≡ code_at p + code_at p
 code_doubles = at_eight (λ p. code_at (p + 1) ≡ code_at p + code_at p) refl refl refl refl refl refl refl refl
-
-pub with_member : (sum p : ℕ) (b : Bool) → p < 8 → sum < code_at p → b ≡ true → (code : ℕ) → code ≡ code_at p
-    → (sum + code ≡ sum + cond b (code_at p) 0) × (sum + code < code_at (p + 1))
-with_member sum p b h l t code q =
-    let d = code_doubles p h in
-    let c : cond b (code_at p) 0 ≡ code_at p = cond_true (code_at p) 0 t in
-    (omega arith, omega arith)
-
-pub without_member : (sum p : ℕ) (b : Bool) → p < 8 → sum < code_at p → b ≡ false
-    → (sum ≡ sum + cond b (code_at p) 0) × (sum < code_at (p + 1))
-without_member sum p b h l t =
-    let d = code_doubles p h in
-    let c : cond b (code_at p) 0 ≡ 0 = cond_false (code_at p) 0 t in
-    (omega arith, omega arith)
 
 -- the positions below p are looked at
 pub record Summed (g : Grid) (e : List ℤ) (work : List ℕ) (cell p sum : ℕ) : Type 0 where
@@ -162,6 +146,11 @@ module _ (g : Grid) (e : List ℤ) (len : length e ≡ size g) (work : List ℕ)
               let b = own_level in
               f n (ap (at e) there ∙ equal_height g e cell p eq ∙ own) (omega arith) (omega arith)
 
+  -- off the sheet there is no equal neighbour
+  pub none_below : neighbour g cell p ≡ size g → false ≡ is_below g e (levels_in g work) cell p
+  none_below off =
+      below_is false (λ q. absurd (true≢false (sym q))) (λ q h a b. off_height e m k (omega (arith, there)) some h)
+
 -- ---- the code of a cell
 module _ (g : Grid) (e : List ℤ) (len : length e ≡ size g) (work : List ℕ) (L : Levelled g e work) (cell : ℕ) (on : cell < size g) where
   own_read : get_or (levels_in g work) cell 0 ≡ word_level (get_or work cell 0)
@@ -194,9 +183,12 @@ module _ (g : Grid) (e : List ℤ) (len : length e ≡ size g) (work : List ℕ)
     high_data = L.certified.data_only cell on (let a = has_level in omega arith)
 
     -- the key that was read is the cell's, and above 0
-    pub high_key : (k : ℕ) → SFits w16 (get_or e cell (pos 0)) → Known k (to_z w16 (of_z w16 (get_or e cell (pos 0)))) →
-        (at e cell ≡ level_of k) × (0 < k)
-    high_key k f K = data_known e cell k (key_read e cell k (omega arith) f K) high_data
+    pub high_key : (k : ℕ) → k ≡ key_of (at e cell) → void ≤ℤ at e cell → (at e cell ≡ level_of k) × (0 < k)
+    high_key k q v = (agrees k k q v refl, go (ℕ_discrete k 0))
+      where
+        go : Dec (k ≡ 0) → 0 < k
+        go (yes z) = true_false high_data (zero_no_data e cell k q v z)
+        go (no f) = omega (arith, f)
 
     not_zero : is_level_zero g e cell ≡ false
     not_zero = ⊎_elim (λ z. absurd (clash z)) (λ z. z) (test (is_level_zero g e cell))
@@ -217,7 +209,3 @@ module _ (g : Grid) (e : List ℤ) (len : length e ≡ size g) (work : List ℕ)
 
         no_descent : (is_outlet g e cell || has_descent g e cell) ≡ false → has_descent g e cell ≡ false
         no_descent q = Rattle.grid_laws.proofs.Tests.or_none_right (is_outlet g e cell) (has_descent g e cell) q
-
--- before the first cell there is no code to write
-pub codes_none : (g : Grid) (e : List ℤ) (work codes : List ℕ) → CodesTo g e work 0 codes
-codes_none g e work codes c h = let z : ⊥ = omega arith in absurd z

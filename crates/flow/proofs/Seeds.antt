@@ -3,12 +3,12 @@ use mathlib.Core.Path.{◌≡◌, sym, ◌∙◌, ap}
 use mathlib.Core.Bool.{true, false, cond, not, ◌&&◌}
 use mathlib.Core.Logic.{◌⊎◌, inl, inr, ⊎_elim}
 use mathlib.Core.List.{List, []}
-use Prim.Native.Nat.{ℕ, ◌+◌, ◌≤◌, ◌<◌}
+use Prim.Native.Nat.{ℕ, ◌≤◌, ◌<◌}
 use native.Mathlib.Omega.{arith}
 use native.Mathlib.Decide.{ℕ_discrete}
 use lib.Dec.{eqb}
-use lib.ListN.{length, get_or, set}
-use lib.Seq.{get_or-take, get_or-set_same, get_or-set_other}
+use lib.ListN.{length, get_or}
+use lib.Seq.{get_or-take}
 use lib.IntN.{ℤ}
 use borrow.Author.Tests.{eq-eqb, ne_eqb, eqb-true, eqb-false}
 use Rattle.grid.specs.declared.Grid.{Grid}
@@ -20,7 +20,6 @@ use Rattle.grid_laws.proofs.Tests.{test, true_false, not_true_false, not_is_fals
 use Rattle.grid_laws.proofs.Tests.{or_left, or_right, or_none_left, or_none_right, cond_true, cond_false}
 use Rattle.grid_laws.proofs.Below.{at_table, no_of_any, first_ext, first_all, first_≤}
 use Rattle.grid_laws.proofs.Outlets.{outlet_leaves, leaves_no_data}
-use Rattle.cells.specs.Marks.{Marked}
 use Rattle.cells.proofs.Codes.{outlet_some}
 use Rattle.flow_laws.specs.Words.{level_in, levels_in, first_word, Levelled}
 use Rattle.flow_laws.proofs.Agree.{certified_directions, certified_unlevelled}
@@ -28,9 +27,7 @@ use Rattle.slopes.specs.Steepest.{near_void, inner_sum}
 use Rattle.flow_laws.proofs.Choice.{sum_small, chosen_none}
 use Rattle.flow_laws.proofs.Steepest.{no_descent_none}
 use Rattle.flow_laws.proofs.Leads.{outlet_direction, descent_direction, not_level_zero}
-use Rattle.flow_laws.proofs.Search.{last?}
 use Rattle.flow_laws.proofs.Words.{level_none, first_zero, first_flat, blank_data, data_level}
-use Rattle.flow.specs.Seeding.{MarksIn}
 use Rattle.flow.specs.Coding.{NoneLacks}
 
 -- where no drop is above 0, the sum is 0 and so is its choice
@@ -97,26 +94,6 @@ module _ (g : Grid) (e : List ℤ) (c : ℕ) where
           not_true_false (is_outlet g e c) (λ o. let w = outlet_leaves g e c o in
           true_false (not_is_false (is_data e (neighbour g c w.0)) (none w.0 w.1)) (leaves_no_data g e len c w.0 w.2)) in
           ap choice (q ∙ cond_false 256 (steepest_sum g e c) t) ∙ drop_word d o
-
--- one more place of a list is as it should be
-pub stored_more : (f : ℕ → ℕ) (l : List ℕ) (i v : ℕ) → i < length l → ((c : ℕ) → c < i → get_or l c 0 ≡ f c) → v ≡ f i → (c : ℕ) →
-    c < i + 1 → get_or (set l i v) c 0 ≡ f c
-stored_more f l i v h before q c k =
-    ⊎_elim (λ m. get_or-set_other l i c v 0 (λ r. omega arith) ∙ before c m) (λ r. rw r (get_or-set_same l i v 0 h ∙ q)) (last? i c k)
-
--- marks stay where a word is stored
-pub marked_set : (g : Grid) (e : List ℤ) (base : ℕ) (l : List ℕ) (i v : ℕ) → i < base → Marked g e base l → Marked g e base (set l i v)
-marked_set g e base l i v h M c o = get_or-set_other l i (base + c) v 0 (λ q. omega arith) ∙ M c o
-
--- and where what is past the cells stays
-pub marks_kept : (g : Grid) (e : List ℤ) (base : ℕ) (w w' : List ℕ) → MarksIn g e base w → length w' ≡ length w →
-    ((i : ℕ) → size g ≤ i → get_or w' i 0 ≡ get_or w i 0) → MarksIn g e base w'
-marks_kept g e base w w' M same kept =
-    record {
-      after = M.after;
-      room = (let r = M.room in omega arith);
-      marked = λ c v. kept (base + c) (let a = M.after in omega arith) ∙ M.marked c v;
-    }
 
 -- ---- a data cell without a level is a cell without a word
 module _ (g : Grid) (e : List ℤ) (len : length e ≡ size g) (work : List ℕ) (L : Levelled g e work) where

@@ -5,219 +5,147 @@
 // definition, so the code of a flat cell is the choice among its equal neighbours one level lower.
 #![tactic(auto)]
 
-ghost use Rattle.std.specs.Prelude.{◌≡◌, true, false, cond, ℕ, suc, ◌+◌, ◌*◌, ◌/◌, ◌%◌, ◌<◌, ◌≤◌, ◌^◌, eqb, length, get_or, set};
+ghost use Rattle.std.specs.Prelude.{◌≡◌, true, false, cond, List, ℕ, suc, ◌+◌, ◌*◌, ◌/◌, ◌%◌, ◌<◌, ◌≤◌, ◌^◌, eqb, length, get_or, set};
+ghost use Rattle.grid.specs.declared.Grid.{Grid};
 ghost use Rattle.grid.specs.Below.{table as table', first_below};
 ghost use Rattle.grid.specs.Sheet.{size, at, is_data, code_at};
 ghost use Rattle.grid.specs.Directions.{direction_at, directions, flat_sum, first_unlevelled};
 ghost use Rattle.shape_laws.specs.Shaped.{Shaped};
 ghost use Rattle.cells.specs.Keys.{level_of};
 ghost use Rattle.cells.specs.Marks.{Marked};
-ghost use Rattle.cells.specs.Steps.{Inner, Offsets};
+ghost use Rattle.cells.specs.Steps.{Inner};
 ghost use Rattle.choice_table.specs.Choices.{choices as choices'};
 ghost use Rattle.slopes.specs.Steepest.{inner_sum};
 ghost use Rattle.flow_laws.specs.Words.{word_level, levels_in, first_word, VoidsMarked, Seeded, Levelled};
-ghost use Rattle.flow.specs.Seeding.{WordsTo, SumsIn, MarksIn};
+ghost use Rattle.flow.specs.Seeding.{WordsTo, MarksIn};
 ghost use Rattle.flow.specs.Coding.{NoneLacks, CodesTo};
 
-use cells::key_at;
+use cells::{Raster, Sheet, Terrain};
 use grid::Grid;
+
+// What is done to a sheet in runs of cells, for the words and for the codes: cells within the border have runs of their own, since no step
+// from them leaves the sheet.
+trait Runs<W>: Copy {
+    ghost sheet: { Self → Grid };
+
+    // what holds once the cells before one are done
+    ghost done: { Self → ℕ → List W → Type 0 };
+
+    // Goes on with the cells from `from` to `to`, which may lie on the border.
+    fn border_run(self, from: usize, to: usize, out: &mut [W])
+        requires from_le_to { (from ≤ to) × (to ≤ size (sheet self)) }
+        requires before { done self from out.old }
+        ensures { done self to out.new };
+
+    // The same for cells within the border.
+    fn inner_run(self, from: usize, to: usize, out: &mut [W])
+        requires from_le_to { (from ≤ to) × (to ≤ size (sheet self)) }
+        requires before { done self from out.old }
+        requires by_index { (c : ℕ) → from ≤ c → c < to →
+            Inner (sheet self) (c / (sheet self).cols) (c % (sheet self).cols) }
+        ensures { done self to out.new };
+}
+
+// Row by row the run that ends with the row's first cell, and the one within the border; then the rest. A sheet of fewer than three rows or
+// columns is all border.
+fn walk<W, R: Runs<W>>(g: Grid, runs: R, out: &mut [W])
+    requires g_bound { size g < 2 ^ 24 }
+    requires sheet { R.sheet runs ≡ g }
+    requires before { R.done runs 0 out.old }
+    ensures { R.done runs (size g) out.new }
+{
+    let cols = g.cols;
+    let rows = if cols < 3 { 0 } else { g.rows };
+    let mut from = 0;
+    for row in 2..rows {
+        let left = (row - 1) * cols + 1;
+        let right = row * cols - 1;
+        runs.border_run(from, left, out);
+        runs.inner_run(left, right, out);
+        from = right;
+    }
+    runs.border_run(from, g.rows * cols, out);
+}
 
 // The word of any cell before the search: an outlet's code, the choice among the largest drops of another data cell, which is 0 for a cell
 // of a flat, and 256 for a void, which is no code. The marks of voids stand in the work buffer from `base` on.
-fn edge_word(
-    g: Grid,
-    elevations: &[i16],
-    table: &[u8; 256],
-    cell: usize,
-    base: usize,
-    work: &[u32],
-) -> u32
-    requires elevations_len { length elevations.now ≡ size g }
-    requires g_bound { size g < 2 ^ 24 }
-    requires cell_bound { cell < size g }
+fn edge_word(t: &Terrain, table: &[u8; 256], cell: usize, base: usize, work: &[u32]) -> u32
+    requires cell_bound { cell < size t.now.raster.grid }
     requires table_value { table.now ≡ choices' }
-    requires shaped { Shaped g }
-    requires g_in_bounds { base + size g ≤ length work.now }
-    requires marked { Marked g elevations.now base work.now }
-    ensures { result ≡ first_word g elevations.now cell }
+    requires g_in_bounds { base + size t.now.raster.grid ≤ length work.now }
+    requires marked { Marked t.now.raster.grid t.now.elevations.now base work.now }
+    ensures { result ≡ first_word t.now.raster.grid t.now.elevations.now cell }
 {
-    if key_at(elevations, cell) == 0 {
+    if cells::key_at(t.elevations, cell) == 0 {
         return 256;
     }
-    let code = cells::outlet_code(g, elevations, cell, base, work);
+    let code = cells::outlet_code(t.raster.grid, t.elevations, cell, base, work);
     if code != 0 {
         return code as u32;
     }
-    choice_table::choose(table, slopes::edge_sum(g, elevations, cell) as usize) as u32
+    choice_table::choose(table, slopes::edge_sum(t, cell) as usize) as u32
 }
 
 // Puts the word of a cell within the border in the place of its sum, which is 256 near a void. The marks are lent on only there, so that the
 // loop over cells far from voids keeps its registers.
-fn set_inner_word(
-    g: Grid,
-    elevations: &[i16],
-    table: &[u8; 256],
-    base: usize,
-    cell: usize,
-    work: &mut [u32],
-)
-    requires elevations_len { length elevations.now ≡ size g }
-    requires g_bound { size g < 2 ^ 24 }
-    requires marks_in { MarksIn g elevations.now base work.old }
-    requires cell_bound { cell < size g }
+#[tactic(auto, using(crate::proofs::Seeds::sum_word))]
+fn set_inner_word(t: &Terrain, table: &[u8; 256], base: usize, cell: usize, work: &mut [u32])
+    requires marks_in { MarksIn t.now.raster.grid t.now.elevations.now base work.old }
+    requires cell_bound { cell < size t.now.raster.grid }
     requires table_value { table.now ≡ choices' }
-    requires cell_value { get_or work.old cell 0 ≡ inner_sum g elevations.now cell }
-    requires shaped { Shaped g }
-    ensures { work.new ≡ set work.old cell (first_word g elevations.now cell) }
+    requires cell_value { get_or work.old cell 0 ≡ inner_sum t.now.raster.grid t.now.elevations.now cell }
+    ensures { work.new ≡ set work.old cell (first_word t.now.raster.grid t.now.elevations.now cell) }
 {
     let sum = work[cell];
     if sum < 256 {
         work[cell] = choice_table::choose(table, sum as usize) as u32;
         return;
     }
-    work[cell] = edge_word(g, elevations, table, cell, base, work);
+    work[cell] = edge_word(t, table, cell, base, work);
 }
 
-// Goes on with words for the cells from `from` to `to`, whose sums stand in their places.
-fn inner_words(
-    g: Grid,
-    elevations: &[i16],
-    table: &[u8; 256],
+// How the cells of a sheet get their words.
+#[derive(Clone, Copy)]
+struct Words<'a> {
+    t: &'a Terrain<'a>,
+    table: &'a [u8; 256],
     base: usize,
-    from: usize,
-    to: usize,
-    work: &mut [u32],
-)
-    requires elevations_len { length elevations.now ≡ size g }
-    requires g_bound { size g < 2 ^ 24 }
-    requires marks_in { MarksIn g elevations.now base work.old }
-    requires table_value { table.now ≡ choices' }
-    requires from_le_to { (from ≤ to) × (to ≤ size g) }
-    requires words_to { WordsTo g elevations.now from work.old }
-    requires sums_in { SumsIn g elevations.now from to work.old }
-    requires shaped { Shaped g }
-    ensures words_to_2 { WordsTo g elevations.now to work.new }
-    ensures marks_in_2 { MarksIn g elevations.now base work.new }
-{
-    let mut cell = from;
-    while cell < to {
-        set_inner_word(g, elevations, table, base, cell, work);
-        cell += 1;
+    ghost table_value: { table.now ≡ choices' },
+}
+
+impl Runs<u32> for Words<'_> {
+    ghost sheet = { λ s. s.t.now.raster.grid };
+
+    ghost done = { λ s n work. WordsTo s.t.now.raster.grid s.t.now.elevations.now n work
+        × MarksIn s.t.now.raster.grid s.t.now.elevations.now s.base work };
+
+    fn border_run(self, from: usize, to: usize, work: &mut [u32]) {
+        for cell in from..to {
+            work[cell] = edge_word(self.t, self.table, cell, self.base, work);
+        }
+    }
+
+    fn inner_run(self, from: usize, to: usize, work: &mut [u32]) {
+        let Words { t, table, base, .. } = self;
+        slopes::row_sums(t, from, to, work);
+        for cell in from..to {
+            set_inner_word(t, table, base, cell, work);
+        }
     }
 }
 
-// Goes on with words for the cells from `from` to `to`, which may lie on the border.
-fn edge_words(
-    g: Grid,
-    elevations: &[i16],
-    table: &[u8; 256],
-    base: usize,
-    from: usize,
-    to: usize,
-    work: &mut [u32],
-)
-    requires elevations_len { length elevations.now ≡ size g }
-    requires g_bound { size g < 2 ^ 24 }
-    requires marks_in { MarksIn g elevations.now base work.old }
-    requires table_value { table.now ≡ choices' }
-    requires from_le_to { (from ≤ to) × (to ≤ size g) }
-    requires words_to { WordsTo g elevations.now from work.old }
-    requires shaped { Shaped g }
-    ensures words_to_2 { WordsTo g elevations.now to work.new }
-    ensures marks_in_2 { MarksIn g elevations.now base work.new }
-{
-    let mut cell = from;
-    while cell < to {
-        work[cell] = edge_word(g, elevations, table, cell, base, work);
-        cell += 1;
-    }
-}
-
-// Goes on with words for a row within the border, from its second cell to the first of the next row.
-fn seed_row(
-    g: Grid,
-    offsets: &[usize; 8],
-    elevations: &[i16],
-    table: &[u8; 256],
-    base: usize,
-    row: usize,
-    work: &mut [u32],
-)
-    requires elevations_len { length elevations.now ≡ size g }
-    requires g_bound { size g < 2 ^ 24 }
-    requires marks_in { MarksIn g elevations.now base work.old }
-    requires table_value { table.now ≡ choices' }
-    requires le_row { (1 ≤ row) × (row + 2 ≤ g.rows) × (3 ≤ g.cols) }
-    requires words_to { WordsTo g elevations.now (row * g.cols + 1) work.old }
-    requires offsets { Offsets g.cols offsets.now }
-    requires shaped { Shaped g }
-    ensures words_to_2 { WordsTo g elevations.now ((row + 1) * g.cols + 1) work.new }
-    ensures marks_in_2 { MarksIn g elevations.now base work.new }
-{
-    let cols = g.cols;
-    let from = row * cols + 1;
-    let to = from + (cols - 2);
-    slopes::row_sums(g, offsets, elevations, from, to, work);
-    inner_words(g, elevations, table, base, from, to, work);
-    edge_words(g, elevations, table, base, to, to + 2, work);
-}
-
-// The words of a sheet with cells within its border.
-fn seed_rows(
-    g: Grid,
-    offsets: &[usize; 8],
-    elevations: &[i16],
-    table: &[u8; 256],
-    base: usize,
-    work: &mut [u32],
-)
-    requires elevations_len { length elevations.now ≡ size g }
-    requires g_bound { size g < 2 ^ 24 }
-    requires marks_in { MarksIn g elevations.now base work.old }
-    requires table_value { table.now ≡ choices' }
-    requires le_rows { (3 ≤ g.rows) × (3 ≤ g.cols) }
-    requires offsets { Offsets g.cols offsets.now }
-    requires shaped { Shaped g }
-    ensures { Seeded g elevations.now work.new }
-{
-    let rows = g.rows;
-    let cols = g.cols;
-    edge_words(g, elevations, table, base, 0, cols + 1, work);
-    let mut row: usize = 1;
-    while row + 1 < rows {
-        seed_row(g, offsets, elevations, table, base, row, work);
-        row += 1;
-    }
-    edge_words(
-        g,
-        elevations,
-        table,
-        base,
-        row * cols + 1,
-        elevations.len(),
-        work,
-    );
-}
-
-// Puts the first word of every cell into the work buffer, row by row; a sheet of fewer than three rows or columns is all border.
-fn seed(g: Grid, offsets: &[usize; 8], elevations: &[i16], base: usize, work: &mut [u32])
-    requires elevations_len { length elevations.now ≡ size g }
-    requires g_bound { size g < 2 ^ 24 }
-    requires marks_in { MarksIn g elevations.now base work.old }
-    requires offsets { Offsets g.cols offsets.now }
-    requires shaped { Shaped g }
-    ensures { Seeded g elevations.now work.new }
+// Puts the first word of every cell into the work buffer.
+fn seed(t: &Terrain, base: usize, work: &mut [u32])
+    requires { MarksIn t.now.raster.grid t.now.elevations.now base work.old }
+    ensures { Seeded t.now.raster.grid t.now.elevations.now work.new }
 {
     let table = choice_table::choices();
-    if g.rows < 3 {
-        edge_words(g, elevations, &table, base, 0, elevations.len(), work);
-        return;
-    }
-    if g.cols < 3 {
-        edge_words(g, elevations, &table, base, 0, elevations.len(), work);
-        return;
-    }
-    seed_rows(g, offsets, elevations, &table, base, work);
+    let runs = Words {
+        t,
+        table: &table,
+        base,
+    };
+    walk(t.raster.grid, runs, work);
 }
 
 // The first of `n` cells without a word, or `n`: a void has one, so it is the first data cell without a level.
@@ -225,14 +153,7 @@ fn first_without(n: usize, work: &[u32]) -> usize
     requires { n ≤ length work.now }
     ensures { result ≡ first_below n (λ c. eqb (get_or work.now c 0) 0) }
 {
-    let mut cell: usize = 0;
-    while cell < n {
-        if work[cell] == 0 {
-            return cell;
-        }
-        cell += 1;
-    }
-    n
+    work[..n].iter().position(|word| *word == 0).unwrap_or(n)
 }
 
 // The lowest word of the level below that of `word`.
@@ -241,15 +162,12 @@ fn lowest_below(word: u32) -> u32
     ensures value { word ≡ 257 → result ≡ 1 }
     ensures result_value { 257 < word → result + 1 ≡ word }
 {
-    if word == 257 {
-        return 1;
-    }
-    word - 1
+    if word == 257 { 1 } else { word - 1 }
 }
 
 // Whether the cell `m` has the elevation of the key `k` and the level below that of `word`, whose lowest word is `low`; a cell of that
 // elevation is no void. Both are read before either is tested, so that the compiler can join the tests.
-fn is_below(elevations: &[i16], work: &[u32], k: u32, low: u32, word: u32, m: usize) -> bool
+fn is_below(elevations: &[i16], work: &[u32], k: u16, low: u32, word: u32, m: usize) -> bool
     requires elevations_in_bounds { length elevations.now ≤ length work.now }
     requires m_in_bounds { m < length elevations.now }
     requires k_nonzero { 0 < k }
@@ -262,7 +180,7 @@ fn is_below(elevations: &[i16], work: &[u32], k: u32, low: u32, word: u32, m: us
     ensures fact_2 { result ≡ false → at elevations.now m ≡ level_of k
         → suc (word_level (get_or work.now m 0)) ≡ word_level word → 0 < word_level (get_or work.now m 0) → ⊥ }
 {
-    let own = cells::key(elevations[m]);
+    let own = cells::short_key_at(elevations, m);
     let near = work[m];
     if own != k {
         return false;
@@ -273,26 +191,8 @@ fn is_below(elevations: &[i16], work: &[u32], k: u32, low: u32, word: u32, m: us
     near < word
 }
 
-// The same for what may lie off the sheet, which has no level.
-fn is_below_any(elevations: &[i16], work: &[u32], k: u32, low: u32, word: u32, m: usize) -> bool
-    requires elevations_in_bounds { length elevations.now ≤ length work.now }
-    requires k_nonzero { 0 < k }
-    requires le_word { 257 ≤ word }
-    requires low_value { word ≡ 257 → low ≡ 1 }
-    requires low_value_2 { 257 < word → low + 1 ≡ word }
-    requires fact { is_data elevations.now m ≡ true → get_or work.now m 0 ≡ 256 → ⊥ }
-    ensures m_value { result ≡ true → (at elevations.now m ≡ level_of k)
-        × ((suc (word_level (get_or work.now m 0)) ≡ word_level word) × (0 < word_level (get_or work.now m 0))) }
-    ensures fact_2 { result ≡ false → at elevations.now m ≡ level_of k
-        → suc (word_level (get_or work.now m 0)) ≡ word_level word → 0 < word_level (get_or work.now m 0) → ⊥ }
-{
-    if m >= elevations.len() {
-        return false;
-    }
-    is_below(elevations, work, k, low, word, m)
-}
-
 // The sum with the code of the position `p`, if it is a member.
+#[tactic(auto, using(crate::proofs::Flats::code_doubles))]
 fn with_code(sum: usize, p: usize, chosen: bool) -> usize
     requires p_bound { p < 8 }
     requires sum_bound { sum < code_at p }
@@ -300,308 +200,150 @@ fn with_code(sum: usize, p: usize, chosen: bool) -> usize
     ensures upper_bound { result < code_at (p + 1) }
 {
     if chosen {
-        return sum + cells::Direction::code(p) as usize;
+        sum + cells::Direction::code(p) as usize
+    } else {
+        sum
     }
-    sum
 }
 
-// The sum of the codes of the equal neighbours one level lower, for a cell within the border; `k` is the cell's key, `word` its word, and
-// `low` the lowest word of the level below.
-fn flat_sum_inner(
-    g: Grid,
-    offsets: &[usize; 8],
-    elevations: &[i16],
+// The sum of the codes of the equal neighbours one level lower; `k` is the cell's key, `word` its word, and `low` the lowest word of the
+// level below. INNER says that the cell lies within the border; off the sheet there is no equal neighbour.
+fn flat_sum<const INNER: bool>(
+    t: &Terrain,
     work: &[u32],
     cell: usize,
-    k: u32,
+    k: u16,
     low: u32,
     word: u32,
 ) -> usize
-    requires elevations_len { length elevations.now ≡ size g }
-    requires g_bound { size g < 2 ^ 24 }
-    requires g_in_bounds { size g ≤ length work.now }
-    requires cell_bound { cell < size g }
-    requires cell_value { at elevations.now cell ≡ level_of k }
+    requires g_in_bounds { size t.now.raster.grid ≤ length work.now }
+    requires cell_bound { cell < size t.now.raster.grid }
+    requires cell_value { at t.now.elevations.now cell ≡ level_of k }
     requires word_value { word ≡ get_or work.now cell 0 }
     requires k_nonzero { 0 < k }
     requires le_word { 257 ≤ word }
     requires low_value { (word ≡ 257 → low ≡ 1) × (257 < word → low + 1 ≡ word) }
-    requires voids_marked { VoidsMarked g elevations.now work.now }
-    requires inner { Inner g (cell / g.cols) (cell % g.cols) }
-    requires offsets { Offsets g.cols offsets.now }
-    ensures value { result ≡ flat_sum g elevations.now (levels_in g work.now) cell }
+    requires voids_marked { VoidsMarked t.now.raster.grid t.now.elevations.now work.now }
+    requires inner { INNER ≡ true → Inner t.now.raster.grid (cell / t.now.raster.grid.cols) (cell % t.now.raster.grid.cols) }
+    ensures value { result ≡ flat_sum t.now.raster.grid t.now.elevations.now (levels_in t.now.raster.grid work.now) cell }
     ensures upper_bound { result < 256 }
 {
     let mut sum: usize = 0;
-    let mut p: usize = 0;
-    while p < 8 {
-        let m = cells::beside(g, offsets, cell, p);
-        sum = with_code(sum, p, is_below(elevations, work, k, low, word, m));
-        p += 1;
+    for p in 0..8 {
+        let below = match t.raster.near::<INNER>(cell, p) {
+            Some(m) => is_below(t.elevations, work, k, low, word, m),
+            None => false,
+        };
+        sum = with_code(sum, p, below);
     }
     sum
 }
 
-// The same for any cell: off the sheet there is no equal neighbour.
-fn flat_sum_border(
-    g: Grid,
-    elevations: &[i16],
-    work: &[u32],
-    cell: usize,
-    k: u32,
-    low: u32,
-    word: u32,
-) -> usize
-    requires elevations_len { length elevations.now ≡ size g }
-    requires g_bound { size g < 2 ^ 24 }
-    requires g_in_bounds { size g ≤ length work.now }
-    requires cell_bound { cell < size g }
-    requires cell_value { at elevations.now cell ≡ level_of k }
-    requires word_value { word ≡ get_or work.now cell 0 }
-    requires k_nonzero { 0 < k }
-    requires le_word { 257 ≤ word }
-    requires low_value { (word ≡ 257 → low ≡ 1) × (257 < word → low + 1 ≡ word) }
-    requires voids_marked { VoidsMarked g elevations.now work.now }
-    ensures value { result ≡ flat_sum g elevations.now (levels_in g work.now) cell }
-    ensures upper_bound { result < 256 }
-{
-    let mut sum: usize = 0;
-    let mut p: usize = 0;
-    while p < 8 {
-        let m = cells::neighbour(g, cell, p);
-        sum = with_code(sum, p, is_below_any(elevations, work, k, low, word, m));
-        p += 1;
-    }
-    sum
-}
-
-// The code of a cell within the border of a sheet on which every data cell has a level.
-fn inner_code(
-    g: Grid,
-    offsets: &[usize; 8],
-    elevations: &[i16],
-    table: &[u8; 256],
-    work: &[u32],
-    cell: usize,
-) -> u8
-    requires elevations_len { length elevations.now ≡ size g }
-    requires g_bound { size g < 2 ^ 24 }
-    requires g_in_bounds { size g ≤ length work.now }
+// The code of a cell of a sheet on which every data cell has a level; INNER says that the cell lies within the border.
+fn cell_code<const INNER: bool>(t: &Terrain, table: &[u8; 256], work: &[u32], cell: usize) -> u8
+    requires g_in_bounds { size t.now.raster.grid ≤ length work.now }
     requires table_value { table.now ≡ choices' }
-    requires cell_bound { cell < size g }
-    requires levelled { Levelled g elevations.now work.now }
+    requires cell_bound { cell < size t.now.raster.grid }
+    requires levelled { Levelled t.now.raster.grid t.now.elevations.now work.now }
     requires nonzero { 0 < get_or work.now cell 0 }
-    requires inner { Inner g (cell / g.cols) (cell % g.cols) }
-    requires offsets { Offsets g.cols offsets.now }
-    ensures { result ≡ direction_at g elevations.now (levels_in g work.now) cell }
+    requires inner { INNER ≡ true → Inner t.now.raster.grid (cell / t.now.raster.grid.cols) (cell % t.now.raster.grid.cols) }
+    ensures { result ≡ direction_at t.now.raster.grid t.now.elevations.now (levels_in t.now.raster.grid work.now) cell }
 {
     let word = work[cell];
     if word < 257 {
         return (word % 256) as u8; // 0 for a void
     }
-    let k = cells::key(elevations[cell]);
+    let k = cells::short_key_at(t.elevations, cell);
     let low = lowest_below(word);
-    choice_table::choose(
-        table,
-        flat_sum_inner(g, offsets, elevations, work, cell, k, low, word),
-    )
+    choice_table::choose(table, flat_sum::<INNER>(t, work, cell, k, low, word))
 }
 
-// The same for any cell.
-fn border_code(g: Grid, elevations: &[i16], table: &[u8; 256], work: &[u32], cell: usize) -> u8
-    requires elevations_len { length elevations.now ≡ size g }
-    requires g_bound { size g < 2 ^ 24 }
-    requires g_in_bounds { size g ≤ length work.now }
-    requires table_value { table.now ≡ choices' }
-    requires cell_bound { cell < size g }
-    requires levelled { Levelled g elevations.now work.now }
-    requires nonzero { 0 < get_or work.now cell 0 }
-    ensures { result ≡ direction_at g elevations.now (levels_in g work.now) cell }
-{
-    let word = work[cell];
-    if word < 257 {
-        return (word % 256) as u8; // 0 for a void
-    }
-    let k = cells::key(elevations[cell]);
-    let low = lowest_below(word);
-    choice_table::choose(
-        table,
-        flat_sum_border(g, elevations, work, cell, k, low, word),
-    )
+// How the cells of a sheet get their codes, once each has a word.
+#[derive(Clone, Copy)]
+struct Codes<'a> {
+    t: &'a Terrain<'a>,
+    table: &'a [u8; 256],
+    work: &'a [u32],
+    ghost g_in_bounds: { size t.now.raster.grid ≤ length work.now },
+    ghost table_value: { table.now ≡ choices' },
+    ghost none_lacks: { NoneLacks t.now.raster.grid work.now },
 }
 
-// Goes on with codes for the cells from `from` to `to`, which lie within the border. Cells within the border and cells on it have loops of
-// their own, since the compiler makes worse code of one loop that chooses at each cell.
-fn inner_codes(
-    g: Grid,
-    offsets: &[usize; 8],
-    elevations: &[i16],
-    table: &[u8; 256],
-    work: &[u32],
-    from: usize,
-    to: usize,
-    codes: &mut [u8],
-)
-    requires elevations_len { length elevations.now ≡ size g }
-    requires g_bound { size g < 2 ^ 24 }
-    requires g_in_bounds { size g ≤ length work.now }
-    requires codes_len { length codes.old ≡ size g }
-    requires table_value { table.now ≡ choices' }
-    requires levelled { Levelled g elevations.now work.now }
-    requires none_lacks { NoneLacks g work.now }
-    requires from_le_to { (from ≤ to) × (to ≤ size g) }
-    requires codes_to { CodesTo g elevations.now work.now from codes.old }
-    requires by_index { (c : ℕ) → from ≤ c → c < to → Inner g (c / g.cols) (c % g.cols) }
-    requires offsets { Offsets g.cols offsets.now }
-    ensures { CodesTo g elevations.now work.now to codes.new }
-{
-    let mut cell = from;
-    while cell < to {
-        codes[cell] = inner_code(g, offsets, elevations, table, work, cell);
-        cell += 1;
+impl Codes<'_> {
+    // Goes on with codes for the cells from `from` to `to`; INNER says that they lie within the border. Cells within the border and cells on
+    // it have loops of their own, since the compiler makes worse code of one loop that chooses at each cell.
+    fn run<const INNER: bool>(self, from: usize, to: usize, codes: &mut [u8])
+        requires levelled { Levelled self.t.now.raster.grid self.t.now.elevations.now self.work.now }
+        requires codes_len { length codes.old ≡ size self.t.now.raster.grid }
+        requires from_le_to { (from ≤ to) × (to ≤ size self.t.now.raster.grid) }
+        requires codes_to { CodesTo self.t.now.raster.grid self.t.now.elevations.now self.work.now from codes.old }
+        requires by_index { INNER ≡ true → (c : ℕ) → from ≤ c → c < to →
+            Inner self.t.now.raster.grid (c / self.t.now.raster.grid.cols) (c % self.t.now.raster.grid.cols) }
+        ensures { CodesTo self.entry.t.now.raster.grid self.entry.t.now.elevations.now self.entry.work.now to codes.new }
+    {
+        let Codes { t, table, work, .. } = self;
+        let t = *t; // its own copy, so that a store makes nothing be read again
+        for cell in from..to {
+            codes[cell] = cell_code::<INNER>(&t, table, work, cell);
+        }
     }
 }
 
-// The same for cells that may lie on the border.
-fn border_codes(
-    g: Grid,
-    elevations: &[i16],
-    table: &[u8; 256],
-    work: &[u32],
-    from: usize,
-    to: usize,
-    codes: &mut [u8],
-)
-    requires elevations_len { length elevations.now ≡ size g }
-    requires g_bound { size g < 2 ^ 24 }
-    requires g_in_bounds { size g ≤ length work.now }
-    requires codes_len { length codes.old ≡ size g }
-    requires table_value { table.now ≡ choices' }
-    requires levelled { Levelled g elevations.now work.now }
-    requires none_lacks { NoneLacks g work.now }
-    requires from_le_to { (from ≤ to) × (to ≤ size g) }
-    requires codes_to { CodesTo g elevations.now work.now from codes.old }
-    ensures { CodesTo g elevations.now work.now to codes.new }
-{
-    let mut cell = from;
-    while cell < to {
-        codes[cell] = border_code(g, elevations, table, work, cell);
-        cell += 1;
+impl Runs<u8> for Codes<'_> {
+    ghost sheet = { λ s. s.t.now.raster.grid };
+
+    ghost done = { λ s n codes. Levelled s.t.now.raster.grid s.t.now.elevations.now s.work.now
+        × (length codes ≡ size s.t.now.raster.grid)
+        × CodesTo s.t.now.raster.grid s.t.now.elevations.now s.work.now n codes };
+
+    fn border_run(self, from: usize, to: usize, codes: &mut [u8]) {
+        self.run::<false>(from, to, codes);
+    }
+
+    fn inner_run(self, from: usize, to: usize, codes: &mut [u8]) {
+        self.run::<true>(from, to, codes);
     }
 }
 
-// Goes on with codes for a row within the border, from its second cell to the first of the next row.
-fn code_row(
-    g: Grid,
-    offsets: &[usize; 8],
-    elevations: &[i16],
-    table: &[u8; 256],
-    work: &[u32],
-    row: usize,
-    codes: &mut [u8],
-)
-    requires elevations_len { length elevations.now ≡ size g }
-    requires g_bound { size g < 2 ^ 24 }
-    requires g_in_bounds { size g ≤ length work.now }
-    requires codes_len { length codes.old ≡ size g }
-    requires table_value { table.now ≡ choices' }
-    requires levelled { Levelled g elevations.now work.now }
-    requires none_lacks { NoneLacks g work.now }
-    requires le_row { (1 ≤ row) × (row + 2 ≤ g.rows) × (3 ≤ g.cols) }
-    requires codes_to { CodesTo g elevations.now work.now (row * g.cols + 1) codes.old }
-    requires offsets { Offsets g.cols offsets.now }
-    ensures { CodesTo g elevations.now work.now ((row + 1) * g.cols + 1) codes.new }
-{
-    let cols = g.cols;
-    let from = row * cols + 1;
-    let to = from + (cols - 2);
-    inner_codes(g, offsets, elevations, table, work, from, to, codes);
-    border_codes(g, elevations, table, work, to, to + 2, codes);
-}
-
-// The codes of a sheet with cells within its border.
-fn code_rows(
-    g: Grid,
-    offsets: &[usize; 8],
-    elevations: &[i16],
-    table: &[u8; 256],
-    work: &[u32],
-    codes: &mut [u8],
-)
-    requires elevations_len { length elevations.now ≡ size g }
-    requires g_bound { size g < 2 ^ 24 }
-    requires g_in_bounds { size g ≤ length work.now }
-    requires codes_len { length codes.old ≡ size g }
-    requires table_value { table.now ≡ choices' }
-    requires levelled { Levelled g elevations.now work.now }
-    requires none_lacks { NoneLacks g work.now }
-    requires le_rows { (3 ≤ g.rows) × (3 ≤ g.cols) }
-    requires offsets { Offsets g.cols offsets.now }
-    ensures { CodesTo g elevations.now work.now (size g) codes.new }
-{
-    let rows = g.rows;
-    let cols = g.cols;
-    border_codes(g, elevations, table, work, 0, cols + 1, codes);
-    let mut row: usize = 1;
-    while row + 1 < rows {
-        code_row(g, offsets, elevations, table, work, row, codes);
-        row += 1;
-    }
-    border_codes(
-        g,
-        elevations,
-        table,
-        work,
-        row * cols + 1,
-        elevations.len(),
-        codes,
-    );
-}
-
-// Writes the code of every cell, row by row as `seed` does it.
-fn write_codes(g: Grid, offsets: &[usize; 8], elevations: &[i16], work: &[u32], codes: &mut [u8])
-    requires elevations_len { length elevations.now ≡ size g }
-    requires g_bound { size g < 2 ^ 24 }
-    requires g_in_bounds { size g ≤ length work.now }
-    requires codes_len { length codes.old ≡ size g }
-    requires levelled { Levelled g elevations.now work.now }
-    requires none_lacks { NoneLacks g work.now }
-    requires offsets { Offsets g.cols offsets.now }
-    ensures { codes.new ≡ table' (size g) (direction_at g elevations.now (levels_in g work.now)) }
+// Writes the code of every cell.
+fn write_codes(t: &Terrain, work: &[u32], codes: &mut [u8])
+    requires g_in_bounds { size t.now.raster.grid ≤ length work.now }
+    requires codes_len { length codes.old ≡ size t.now.raster.grid }
+    requires levelled { Levelled t.now.raster.grid t.now.elevations.now work.now }
+    requires none_lacks { NoneLacks t.now.raster.grid work.now }
+    ensures { codes.new ≡ table' (size t.now.raster.grid)
+        (direction_at t.now.raster.grid t.now.elevations.now (levels_in t.now.raster.grid work.now)) }
 {
     let table = choice_table::choices();
-    if g.rows < 3 {
-        border_codes(g, elevations, &table, work, 0, elevations.len(), codes);
-        return;
-    }
-    if g.cols < 3 {
-        border_codes(g, elevations, &table, work, 0, elevations.len(), codes);
-        return;
-    }
-    code_rows(g, offsets, elevations, &table, work, codes);
+    let runs = Codes {
+        t,
+        table: &table,
+        work,
+    };
+    walk(t.raster.grid, runs, codes);
 }
 
 // The codes of the sheet, or the first data cell without a level, and then the codes stay as they are. The marks of voids stand in the last
 // quarter of the work buffer.
-pub fn directions_into(g: Grid, elevations: &[i16], codes: &mut [u8], work: &mut [u32]) -> usize
-    requires g_bound { size g < 2 ^ 24 }
-    requires elevations_len { length elevations.now ≡ size g }
-    requires codes_len { length codes.old ≡ size g }
-    requires g_in_bounds { 4 * size g ≤ length work.old }
-    requires cols_bound { g.cols < 2 ^ 24 }
-    requires shaped { Shaped g }
-    requires marked { Marked g elevations.now (length work.old / 2 + size g) work.old }
-    ensures value { result ≡ first_unlevelled g elevations.now }
-    ensures codes_after { codes.new ≡ cond (eqb result (size g)) (directions g elevations.now) codes.old }
+pub fn directions_into(s: &Sheet, codes: &mut [u8], work: &mut [u32]) -> usize
+    requires codes_len { length codes.old ≡ size s.now.grid }
+    requires g_in_bounds { 4 * size s.now.grid ≤ length work.old }
+    requires shaped { Shaped s.now.grid }
+    requires marked { Marked s.now.grid s.now.elevations.now (length work.old / 2 + size s.now.grid) work.old }
+    ensures value { result ≡ first_unlevelled s.now.grid s.now.elevations.now }
+    ensures codes_after { codes.new ≡ cond (eqb result (size s.now.grid)) (directions s.now.grid s.now.elevations.now) codes.old }
 {
-    let offsets = cells::offsets(g.cols);
-    let base = work.len() / 2 + g.rows * g.cols;
-    seed(g, &offsets, elevations, base, work);
-    levels::levels(g, &offsets, elevations, work);
-    let first = first_without(elevations.len(), work);
-    if first < elevations.len() {
+    let t = Terrain {
+        raster: Raster::new(s.grid),
+        elevations: s.elevations,
+    };
+    let base = work.len() / 2 + s.grid.rows * s.grid.cols;
+    seed(&t, base, work);
+    levels::levels(&t, work);
+    let first = first_without(s.elevations.len(), work);
+    if first < s.elevations.len() {
         return first;
     }
-    write_codes(g, &offsets, elevations, work, codes);
+    write_codes(&t, work, codes);
     first
 }

@@ -10,17 +10,15 @@ ghost use Rattle.text_lines.specs.Put.{Put};
 ghost use Rattle.frames.specs.Printed.{Printed, ElevationSheet, Sheets};
 
 use grid::{Answer, Grid};
-use text_lines::{codes_sheet, elevations_sheet, numbers_sheet, put_hex};
+use text_lines::{put_hex, sheet};
 
 fn header(g: Grid, out: &mut [u8]) -> usize
     requires { (g.rows ≤ 4000) × (g.cols ≤ 4000) × (9 ≤ length out.old) }
     ensures { Put (header_text g) 9 0 out.old out.new result }
 {
-    let rows = g.rows as u32;
-    let cols = g.cols as u32;
-    let middle = put_hex(out, 0, 4, rows);
-    let next = put_hex(out, middle, 4, cols);
-    out[next] = 10;
+    let middle = put_hex(out, 0, 4, g.rows as u32);
+    let next = put_hex(out, middle, 4, g.cols as u32);
+    out[next] = b'\n';
     next + 1
 }
 
@@ -31,7 +29,7 @@ pub fn write_elevations(g: Grid, elevations: &[i16], out: &mut [u8]) -> usize
     ensures sixteen_bits { SixteenBits elevations.now }
 {
     let rows = header(g, out);
-    elevations_sheet(g, elevations, out, rows)
+    sheet(g, elevations, out, rows)
 }
 
 // "header, filled rows (4 digits a cell), codes (2), counts (8), labels (8)"
@@ -48,9 +46,9 @@ pub fn write_results(
         out.old out.new result }
 {
     let after_filled = write_elevations(g, filled, out);
-    let after_codes = codes_sheet(g, codes, out, after_filled);
-    let after_counts = numbers_sheet(g, counts, out, after_codes);
-    numbers_sheet(g, labels, out, after_counts)
+    let after_codes = sheet(g, codes, out, after_filled);
+    let after_counts = sheet(g, counts, out, after_codes);
+    sheet(g, labels, out, after_counts)
 }
 
 // "A no prints FF, the number in 2 digits, the place in 8, all on one line"
@@ -58,11 +56,9 @@ pub fn write_refusal(answer: Answer, out: &mut [u8]) -> usize
     requires { 13 ≤ length out.old }
     ensures { Printed (refusal_text answer) out.old out.new result }
 {
-    let number = answer.number;
-    let place = answer.place;
-    let after_mark = put_hex(out, 0, 2, 255);
-    let after_number = put_hex(out, after_mark, 2, number);
-    let next = put_hex(out, after_number, 8, place);
-    out[next] = 10;
+    let after_mark = put_hex(out, 0, 2, 0xFF);
+    let after_number = put_hex(out, after_mark, 2, answer.number);
+    let next = put_hex(out, after_number, 8, answer.place);
+    out[next] = b'\n';
     next + 1
 }

@@ -4,11 +4,12 @@
 // what the search comes to.
 #![tactic(auto)]
 
-ghost use Rattle.std.specs.Prelude.{◌≡◌, ◌+◌, ◌/◌, ◌%◌, ◌<◌, ◌≤◌, ◌^◌, length, get_or};
+ghost use Rattle.std.specs.Prelude.{◌≡◌, true, ◌+◌, ◌/◌, ◌%◌, ◌<◌, ◌≤◌, ◌^◌, length, get_or};
 ghost use Rattle.grid.specs.Sheet.{size};
-ghost use Rattle.cells.specs.Steps.{Inner, Offsets};
+ghost use Rattle.cells.specs.Steps.{Inner};
 ghost use Rattle.join_laws.specs.Search.{part_of, Parts, joined_marks, Searching, Spreading, GoesOn, Touched};
 
+use cells::Raster;
 use grid::Grid;
 
 // Marks the cell `m` and queues it if it is of the set and not joined.
@@ -28,65 +29,14 @@ pub fn touch(
 {
     let place = base + m;
     if work[place] != 1 {
-        return len;
+        return len; // not of the set, or joined
     }
     queue::put(half, len, m, place, value, work)
 }
 
-// The same for what may lie off the sheet.
-fn touch_any(
-    n: usize,
-    half: usize,
-    base: usize,
-    value: u32,
-    len: usize,
-    m: usize,
-    work: &mut [u32],
-) -> usize
-    requires parts { Parts n base half (length work.old) }
-    requires len_lt_n { m < n → get_or work.old (base + m) 0 ≡ 1 → len < n }
-    ensures { Touched n base half value work.old work.new len m result }
-{
-    if m >= n {
-        return len;
-    }
-    touch(n, half, base, value, len, m, work)
-}
-
-// Joins what is of the set beside `x`, the queue's cell at `head`, which lies within the border.
-fn spread_inner(
-    g: Grid,
-    half: usize,
-    base: usize,
-    value: u32,
-    head: usize,
-    len: usize,
-    x: usize,
-    offsets: &[usize; 8],
-    work: &mut [u32],
-) -> usize
-    requires parts { Parts (size g) base half (length work.old) }
-    requires le_value { 2 ≤ value }
-    requires spreading { Spreading g value (part_of (size g) base work.old) (part_of (size g) half work.old) head len x 0 }
-    requires inner { Inner g (x / g.cols) (x % g.cols) }
-    requires offsets { Offsets g.cols offsets.now }
-    ensures searching { Searching g value (part_of (size g) base work.new) (part_of (size g) half work.new) (head + 1) result }
-    ensures goes_on { GoesOn g base half value work.old work.new }
-{
-    let n = g.rows * g.cols;
-    let mut tail = len;
-    let mut p: usize = 0;
-    while p < 8 {
-        let m = cells::beside(g, offsets, x, p);
-        tail = touch(n, half, base, value, tail, m, work);
-        p += 1;
-    }
-    tail
-}
-
-// The same for a cell on the border.
-fn spread_border(
-    g: Grid,
+// Joins what is of the set beside `x`, the queue's cell at `head`. INNER says that it lies within the border (`Raster::near`).
+fn spread_around<const INNER: bool>(
+    r: &Raster,
     half: usize,
     base: usize,
     value: u32,
@@ -95,49 +45,49 @@ fn spread_border(
     x: usize,
     work: &mut [u32],
 ) -> usize
-    requires parts { Parts (size g) base half (length work.old) }
+    requires parts { Parts (size r.now.grid) base half (length work.old) }
     requires le_value { 2 ≤ value }
-    requires spreading { Spreading g value (part_of (size g) base work.old) (part_of (size g) half work.old) head len x 0 }
-    requires x_bound { x < size g }
-    ensures searching { Searching g value (part_of (size g) base work.new) (part_of (size g) half work.new) (head + 1) result }
-    ensures goes_on { GoesOn g base half value work.old work.new }
+    requires spreading { Spreading r.now.grid value (part_of (size r.now.grid) base work.old) (part_of (size r.now.grid) half work.old) head len x 0 }
+    requires x_bound { x < size r.now.grid }
+    requires inner { INNER ≡ true → Inner r.now.grid (x / r.now.grid.cols) (x % r.now.grid.cols) }
+    ensures searching { Searching r.now.grid value (part_of (size r.now.grid) base work.new) (part_of (size r.now.grid) half work.new) (head + 1) result }
+    ensures goes_on { GoesOn r.now.grid base half value work.old work.new }
 {
-    let n = g.rows * g.cols;
+    let n = r.grid.rows * r.grid.cols;
     let mut tail = len;
-    let mut p: usize = 0;
-    while p < 8 {
-        let m = cells::neighbour(g, x, p);
-        tail = touch_any(n, half, base, value, tail, m, work);
-        p += 1;
+    for p in 0..8 {
+        if let Some(m) = r.near::<INNER>(x, p) {
+            tail = touch(n, half, base, value, tail, m, work);
+        }
     }
     tail
 }
 
 // Joins what is of the set beside the queue's cell at `head`.
+#[tactic(auto, using(join_laws::proofs::Search::queue_here))]
 fn spread(
-    g: Grid,
+    r: &Raster,
     half: usize,
     base: usize,
     value: u32,
     head: usize,
     len: usize,
-    offsets: &[usize; 8],
     work: &mut [u32],
 ) -> usize
-    requires parts { Parts (size g) base half (length work.old) }
+    requires parts { Parts (size r.now.grid) base half (length work.old) }
     requires le_value { 2 ≤ value }
-    requires searching { Searching g value (part_of (size g) base work.old) (part_of (size g) half work.old) head len }
+    requires searching { Searching r.now.grid value (part_of (size r.now.grid) base work.old) (part_of (size r.now.grid) half work.old) head len }
     requires head_lt_len { head < len }
-    requires offsets { Offsets g.cols offsets.now }
-    ensures searching_2 { Searching g value (part_of (size g) base work.new) (part_of (size g) half work.new) (head + 1) result }
-    ensures goes_on { GoesOn g base half value work.old work.new }
+    ensures searching_2 { Searching r.now.grid value (part_of (size r.now.grid) base work.new) (part_of (size r.now.grid) half work.new) (head + 1) result }
+    ensures goes_on { GoesOn r.now.grid base half value work.old work.new }
 {
-    let cols = g.cols;
+    let cols = r.grid.cols;
     let x = work[half + head] as usize;
-    if cells::is_inner(g, x / cols, x % cols) {
-        return spread_inner(g, half, base, value, head, len, x, offsets, work);
+    if cells::is_inner(r.grid, x / cols, x % cols) {
+        spread_around::<true>(r, half, base, value, head, len, x, work)
+    } else {
+        spread_around::<false>(r, half, base, value, head, len, x, work)
     }
-    spread_border(g, half, base, value, head, len, x, work)
 }
 
 // Joins all that the set joins to the `len` cells of mark `value`, which stand in the queue.
@@ -149,11 +99,11 @@ pub fn join(g: Grid, half: usize, base: usize, value: u32, len: usize, work: &mu
     ensures work_after { part_of (size g) base work.new ≡ joined_marks g value (part_of (size g) base work.old) }
     ensures goes_on { GoesOn g base half value work.old work.new }
 {
-    let offsets = cells::offsets(g.cols);
+    let r = Raster::new(g);
     let mut head: usize = 0;
     let mut tail = len;
     while head < tail {
-        tail = spread(g, half, base, value, head, tail, &offsets, work);
+        tail = spread(&r, half, base, value, head, tail, work);
         head += 1;
     }
 }

@@ -4,7 +4,8 @@ use mathlib.Core.Path.{◌≡◌, refl, sym, ◌∙◌, ap, subst}
 use mathlib.Core.Bool.{true, false, cond, ◌||◌}
 use mathlib.Core.Logic.{◌⊎◌, inl, inr, ⊎_elim}
 use mathlib.Core.List.{List}
-use Prim.Native.Nat.{ℕ, ◌+◌, ◌≤◌, ◌<◌}
+use Prim.Native.Nat.{ℕ, ◌+◌, ◌/◌, ◌%◌, ◌≤◌, ◌<◌, ◌^◌}
+use native.Mathlib.Nat.{div-le_self, mod-le}
 use native.Mathlib.Omega.{arith}
 use native.Mathlib.Decide.{ℕ_discrete, dec_lt}
 use lib.Dec.{eqb}
@@ -18,7 +19,7 @@ use Rattle.grid.specs.Sheet.{size, neighbour, Touch}
 use Rattle.grid.specs.Joined.{joined}
 use Rattle.grid_laws.proofs.Tests.{test, true_false, cond_true, cond_false, or_left, or_right, or_cases, same_test}
 use Rattle.grid_laws.proofs.Below.{at_table, length_table, is_table, table_ext, count_≤, count_less, count_change}
-use Rattle.grid_laws.proofs.Neighbours.{touch_back}
+use Rattle.grid_laws.proofs.Neighbours.{touch_back, cols_positive}
 use Rattle.join_laws.specs.Ways.{stop, step, Joins}
 use Rattle.join_laws.specs.Search.{part_of, Parts, in_set, is_joined, joined_marks, Searching, Spreading, GoesOn, Touched}
 use Rattle.join_laws.proofs.Joined.{joined_way, way_joined}
@@ -320,6 +321,22 @@ module _ (g : Grid) (base half value : ℕ) where
             here = at_part (size g) half w head (queue_cell S h).0;
             done = λ k l. let z : ⊥ = omega arith in absurd z;
           }
+
+      -- the queue's cell at head, as the program reads it: where it stands, and its row and column
+      pub queue_here : Searching g value marks queue head len → head < len →
+          (half + head < length w) × (get_or w (half + head) 0 < size g) × (0 < g.cols) × (get_or w (half + head) 0 / g.cols < 2 ^ 24)
+          × (get_or w (half + head) 0 % g.cols < 2 ^ 24)
+      queue_here S h =
+          let c = queue_cell S h in
+          let x = get_or w (half + head) 0 in
+          let few = P.few in
+          let room = P.queue_in in (
+            omega arith,
+            c.1,
+            cols_positive g x c.1,
+            omega (arith, div-le_self x g.cols),
+            omega (arith, mod-le x g.cols),
+          )
 
       pub spread_all : (x : ℕ) → Spreading g value marks queue head len x 8 → Searching g value marks queue (head + 1) len
       spread_all x S =

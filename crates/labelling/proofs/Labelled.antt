@@ -15,7 +15,7 @@ use Rattle.route_laws.specs.Walking.{live_at, next_at, Walked}
 use Rattle.route_laws.proofs.Front.{at_front}
 use Rattle.labelling.specs.Labelled.{LabelsOf}
 
--- ---- one store more: the first i places hold f
+-- ---- one store more: the first i places hold f (the crate `watershed_walk` asks for it)
 abbrev pub FilledTo : (ℕ → ℕ) → ℕ → List ℕ → Type 0
 FilledTo f i l = (c : ℕ) → c < i → get_or l c 0 ≡ f c
 

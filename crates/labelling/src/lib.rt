@@ -17,10 +17,8 @@ fn read_labels(n: usize, tail: &[u32], labels: &mut [u32])
     ensures { labels.new ≡ table n (λ (c : ℕ). get_or tail.now c 0 - (n + 1)) }
 {
     let raised = (n + 1) as u32;
-    let mut c = 0;
-    while c < n {
+    for c in 0..n {
         labels[c] = tail[c] - raised;
-        c += 1;
     }
 }
 

@@ -7,52 +7,48 @@ ghost use Rattle.std.specs.Prelude.{◌≡◌, cond, ◌<◌, ◌≤◌, eqb, le
 ghost use Rattle.grid.specs.Sheet.{size};
 ghost use Rattle.grid.specs.Routes.{labels as labels', first_endless};
 ghost use Rattle.grid.specs.Promises.{LabelsPromise};
-ghost use Rattle.route_laws.specs.Receivers.{AllCodes};
-ghost use Rattle.checks.specs.Sizes.{Fits};
+ghost use Rattle.refusals.specs.Answers.{answer_of};
 
-use grid::{Answer, Grid};
+use grid::Grid;
+use receivers::CodeSheet;
+use refusals::{Question, Refusal};
 
 // The labels, if every route ends, by way of the lent tail; the result is the first cell whose route does not, or rows * cols.
-fn labels_into(g: Grid, codes: &[u8], labels: &mut [u32], tail: &mut [u32]) -> usize
-    requires fits { Fits g }
-    requires codes_len { length codes.now ≡ size g }
-    requires labels_len { length labels.old ≡ size g }
-    requires g_in_bounds { size g ≤ length tail.old }
-    requires all_codes { AllCodes codes.now }
-    ensures value { result ≡ first_endless g codes.now }
-    ensures labels_after { labels.new ≡ cond (eqb result (size g)) (labels' g codes.now) labels.old }
+fn labels_into(codes: &CodeSheet, labels: &mut [u32], tail: &mut [u32]) -> usize
+    requires labels_len { length labels.old ≡ size codes.now.grid }
+    requires codes_in_bounds { size codes.now.grid ≤ length tail.old }
+    ensures value { result ≡ first_endless codes.now.grid codes.now.codes.now }
+    ensures labels_after { labels.new
+        ≡ cond (eqb result (size codes.now.grid)) (labels' codes.now.grid codes.now.codes.now) labels.old }
 {
-    let n = g.rows * g.cols;
-    receivers::receivers_from(g, codes, tail);
+    let n = codes.grid.rows * codes.grid.cols;
+    receivers::receivers_from(codes, tail);
     labelling::labels_of(n, tail, labels)
 }
 
 // Codes to labels.
-pub fn labels(g: Grid, codes: &[u8], labels: &mut [u32], work: &mut [u32]) -> Answer
+pub fn labels(
+    g: Grid,
+    codes: &[u8],
+    labels: &mut [u32],
+    work: &mut [u32],
+) -> Result<(), Refusal<u32>>
     ensures { LabelsPromise g codes.now labels.old labels.new work.old work.new
-        result }
+        (answer_of result) }
 {
     let given = codes.len();
     let wanted = labels.len();
     let room = work.len();
-    let answer = checks::check(g, given, given, wanted, wanted, wanted, wanted, room);
-    if answer.number != 0 {
-        return answer;
-    }
+    checks::check(g, given, given, wanted, wanted, wanted, wanted, room)?;
     let bad = receivers::first_bad_code(g, codes);
     if bad < given {
-        return Answer {
-            number: 11,
-            place: bad as u32,
-        };
+        return Err(Question::Codes.at(bad as u32));
     }
+    let sheet = CodeSheet { grid: g, codes };
     let half = room / 2;
-    let first = labels_into(g, codes, labels, &mut work[half..]);
+    let first = labels_into(&sheet, labels, &mut work[half..]);
     if first < given {
-        return Answer {
-            number: 12,
-            place: first as u32,
-        };
+        return Err(Question::Routes.at(first as u32));
     }
-    answer
+    Ok(())
 }

@@ -5,13 +5,17 @@ use mathlib.Core.Logic.{⊎_elim}
 use mathlib.Core.List.{List}
 use Prim.Native.Nat.{ℕ, suc, ◌+◌, ◌≤◌, ◌<◌}
 use native.Mathlib.Omega.{arith}
+use lib.Dec.{eqb}
 use lib.ListN.{length, get_or, take, set}
 use lib.Seq.{get_or-take}
 use lib.IntN.{ℤ}
+use borrow.Author.Tests.{eq-eqb, eqb-true}
 use Rattle.grid.specs.declared.Grid.{Grid}
+use Rattle.grid.specs.Below.{any_below}
 use Rattle.grid.specs.Sheet.{size, is_data, neighbour}
 use Rattle.grid.specs.Directions.{is_equal, is_level_zero}
-use Rattle.grid_laws.proofs.Tests.{test, not_true_false, cond_true, cond_false}
+use Rattle.grid_laws.proofs.Tests.{test, true_false, not_true_false, cond_true, cond_false, and_true, and_left, and_right}
+use Rattle.grid_laws.proofs.Below.{some_of_any, no_of_any}
 use Rattle.flow_laws.specs.Search.{Equal}
 use Rattle.flow_laws.specs.Words.{void_word, word_level, level_in, queue_in, first_word, Coded, VoidsMarked, Seeded, Searching, Joining}
 use Rattle.flow_laws.proofs.Search.{last?, looked, search_none}
@@ -19,7 +23,7 @@ use Rattle.flow_laws.proofs.Equals.{equal_on, equal_back}
 use Rattle.flow_laws.proofs.Leads.{zero_code_range}
 use Rattle.flow_laws.proofs.Words.{level_none, level_void, level_one, level_more, level_here, word_other, queue_first, queue_last}
 use Rattle.flow_laws.proofs.Words.{first_void, first_zero, first_flat, blank_data, data_level, marked, searching_room}
-use Rattle.levels.proofs.Keyed.{Looked}
+use Rattle.levels.specs.Beside.{zero_beside}
 
 -- before the first cell
 module _ (g : Grid) (e : List ℤ) (half : ℕ) (work : List ℕ) (S : Seeded g e work) where
@@ -70,7 +74,7 @@ module _ (g : Grid) (e : List ℤ) (half : ℕ) (work : List ℕ) (S : Seeded g 
         ahead = λ c h k. low c k;
       }
 
-module _ (g : Grid) (e : List ℤ) (len : length e ≡ size g) (half : ℕ) (work : List ℕ) (cell tail : ℕ) (on : cell < size g)
+module _ {g : Grid} {e : List ℤ} (len : length e ≡ size g) {half : ℕ} {work : List ℕ} {cell tail : ℕ} (on : cell < size g)
     (J : Joining g e half work cell tail) where
   passed : ((d : ℕ) → Equal g e d cell → level_in (size g) work d ≡ 1 → (0 < level_in (size g) work cell) × (level_in (size g) work cell ≤ 2))
       → Joining g e half work (cell + 1) tail
@@ -100,12 +104,16 @@ module _ (g : Grid) (e : List ℤ) (len : length e ≡ size g) (half : ℕ) (wor
   joining_data none = blank_data g e len work J.searching.voids cell on none
 
   -- it lies beside no equal cell of level 0
-  pub joining_alone : {found : ℕ} → Looked g e work cell 8 found → 8 ≤ found → Joining g e half work (cell + 1) tail
-  joining_alone L none =
+  pub joining_alone : any_below 8 (zero_beside g e work cell) ≡ false → Joining g e half work (cell + 1) tail
+  unfolding zero_beside
+  joining_alone none =
       passed
       (λ d b q.
       let k = equal_back g e len d cell b in
-      absurd (L.1 none k.position k.eight k.equal (ap (level_in (size g) work) k.there ∙ q)))
+      true_false (here k.position k.equal (ap (level_in (size g) work) k.there ∙ q)) (no_of_any 8 (zero_beside g e work cell) none k.position k.eight))
+    where
+      here : (p : ℕ) → is_equal g e cell p ≡ true → level_in (size g) work (neighbour g cell p) ≡ 1 → zero_beside g e work cell p ≡ true
+      here p t l = and_true t (eq-eqb _ 1 l)
 
   pub joining_room : get_or work cell 0 ≡ 0 → tail < size g
   joining_room z = searching_room g e len half work J.searching cell on z
@@ -164,7 +172,17 @@ module _ (g : Grid) (e : List ℤ) (len : length e ≡ size g) (half : ℕ) (wor
           ahead = λ c h k. let q = other c (λ r. omega arith) in let a = J.ahead c (omega arith) k in omega arith;
         }
 
-  pub joining_next : {found r : ℕ} {work' : List ℕ} → Looked g e work cell 8 found → found < 8
+  pub joining_next : {r : ℕ} {work' : List ℕ} → any_below 8 (zero_beside g e work cell) ≡ true
       → size g ≤ half → half + size g ≤ length work → get_or work cell 0 ≡ 0
       → r ≡ tail + 1 → work' ≡ set (set work cell 257) (half + tail) cell → Joining g e half work' (cell + 1) r
-  joining_next {found} L h hn hl none q s = rw (q, s) (joining_marked hn hl none found h (L.0 h).0 (L.0 h).1)
+  unfolding zero_beside
+  joining_next {r} t hn hl none q s =
+      let w = some_of_any 8 (zero_beside g e work cell) t in
+      let b = both w.0 w.2 in
+      rw (q, s) (joining_marked hn hl none w.0 w.1 b.0 b.1)
+    where
+      both : (p : ℕ) → zero_beside g e work cell p ≡ true → (is_equal g e cell p ≡ true) × (level_in (size g) work (neighbour g cell p) ≡ 1)
+      both p z =
+          let same = is_equal g e cell p in
+          let one = eqb (level_in (size g) work (neighbour g cell p)) 1 in
+          (and_left same one z, eqb-true _ 1 (and_right same one z))

@@ -1,28 +1,33 @@
 -- What a key that was read says of its cell, and what the word of a neighbour says.
-use mathlib.Core.Path.{◌≡◌, refl, sym, ◌∙◌, ap, subst}
-use mathlib.Core.Bool.{Bool, true, false, cond}
+use mathlib.Core.Path.{◌≡◌, refl, sym, ◌∙◌, ap, ap₂, subst}
+use mathlib.Core.Bool.{Bool, true, false, not, ◌&&◌, ◌||◌}
 use mathlib.Core.Logic.{⊎_elim}
 use mathlib.Core.List.{List}
-use Prim.Native.Nat.{ℕ, ◌+◌, ◌≤◌, ◌<◌}
+use Prim.Native.Nat.{ℕ, suc, ◌+◌, ◌≤◌, ◌<◌}
 use native.Mathlib.Omega.{arith}
 use native.Mathlib.Decide.{dec_lt}
+use lib.Dec.{eqb, ltb}
 use lib.ListN.{length, get_or, take}
 use lib.Seq.{get_or-take}
 use lib.IntN.{ℤ, pos}
 use lib.Signed.{◌≤ℤ◌}
-use borrow.Author.Count.{below_more}
+use borrow.Author.Tests.{eq-eqb, eqb-true}
 use mir.Syntax.{w16}
 use mir.Val.{SFits, to_z, of_z}
 use mir.Facts.{to_z-of_z}
+use Rattle.std.specs.Prelude.{Decides}
+use Rattle.std.proofs.lemmas.Bool.Decides.{Decides-like, Decides-and, Decides-eqb, Decides-ltb}
 use Rattle.grid.specs.declared.Grid.{Grid}
+use Rattle.grid.specs.Below.{any_below}
 use Rattle.grid.specs.Sheet.{size, void, at, is_data, eq_z, neighbour}
 use Rattle.grid.specs.Directions.{is_equal}
-use Rattle.grid_laws.proofs.Tests.{test, true_false, not_of_false}
+use Rattle.grid_laws.proofs.Tests.{test, true_false, not_true_false, not_of_false, and_true, and_left, and_right, and_false_left, same_test}
 use Rattle.grid_laws.proofs.Order.{eq_z_eq}
 use Rattle.grid_laws.proofs.Cells.{off_no_data, on_sheet}
 use Rattle.cells.specs.Keys.{key_of, level_of}
 use Rattle.cells.proofs.Keys.{Known, known_read, known_level, level_key, key_level, key_void, zero_no_data}
 use Rattle.flow_laws.specs.Words.{level_in}
+use Rattle.levels.specs.Beside.{zero_beside}
 use Rattle.flow_laws.proofs.Equals.{is_equal_lem, equal_height}
 use Rattle.flow_laws.proofs.Agree.{equal_on_sheet}
 use Rattle.flow_laws.proofs.Words.{level_one, word_one}
@@ -63,49 +68,65 @@ pub data_known : (e : List ℤ) (c k : ℕ) → Known k (at e c) → is_data e c
 data_known e c k K d = (sym (known_level k (at e c) K), data_positive e c k K.0 K.1.1.0 d)
 
 -- ---- an equal neighbour of level 0
--- of the positions before p that have one, `found` is one, and there is none where it is 8
-abbrev pub Looked : Grid → List ℤ → List ℕ → (cell p found : ℕ) → Type 0
-Looked g e work cell p found =
-    (found < 8 → (is_equal g e cell found ≡ true) × (level_in (size g) work (neighbour g cell found) ≡ 1))
-    × (8 ≤ found → (q : ℕ) → q < p → is_equal g e cell q ≡ true → level_in (size g) work (neighbour g cell q) ≡ 1 → ⊥)
+module _ (g : Grid) (e : List ℤ) (len : length e ≡ size g) (work : List ℕ) (cell p : ℕ) where
+  -- off the sheet there is none
+  pub zero_off : neighbour g cell p ≡ size g → zero_beside g e work cell p ≡ false
+  unfolding zero_beside
+  zero_off off =
+      and_false_left (eqb (level_in (size g) work (neighbour g cell p)) 1)
+      (not_true_false (is_equal g e cell p) (λ t. let on = equal_on_sheet g e len cell p t in let z : ⊥ = omega arith in z))
 
-pub looked_none : (g : Grid) (e : List ℤ) (work : List ℕ) (cell : ℕ) → Looked g e work cell 0 8
-looked_none g e work cell = ((λ h. let z : ⊥ = omega arith in absurd z), λ h q l. let z : ⊥ = omega arith in absurd z)
+  module _ (own_data : is_data e cell ≡ true) (k : ℕ) (own : k ≡ key_of (at e cell)) (void_bound : void ≤ℤ at e cell) (m : ℕ)
+      (there : m ≡ neighbour g cell p) where
+    -- the cell there has level 0 and the own elevation
+    abbrev pub Zero : Type 0
+    Zero = (at e m ≡ level_of k) × ((0 < get_or work m 0) × (get_or work m 0 < 256))
 
-module _ (g : Grid) (e : List ℤ) (len : length e ≡ size g) (work : List ℕ) (cell k : ℕ) (own : at e cell ≡ level_of k) (some : 0 < k)
-    (p m : ℕ) (there : m ≡ neighbour g cell p) where
-  zero_found : (at e m ≡ level_of k) × ((0 < get_or work m 0) × (get_or work m 0 < 256))
-      → (is_equal g e cell p ≡ true) × (level_in (size g) work (neighbour g cell p) ≡ 1)
-  zero_found (h, (a, b)) =
-      let d : is_data e m ≡ true = height_data e m k h some in
-      let w = get_or-take (size g) work m 0 (on_sheet g e len m d) in
-      let l : level_in (size g) work m ≡ 1 = level_one _ (rw w a) (rw w b) in
-      let d' = subst (λ (x : ℕ). is_data e x ≡ true) there d in
-      let same = subst (λ (x : ℕ). at e x ≡ at e cell) there (h ∙ sym own) in
-      (is_equal_lem g e cell p d' same, subst (λ (x : ℕ). level_in (size g) work x ≡ 1) there l)
+    zero_found : Zero → zero_beside g e work cell p ≡ true
+    unfolding zero_beside is_data
+    zero_found (h, (a, b)) =
+        let like : at e m ≡ at e cell = h ∙ sym (agrees k k own void_bound refl) in
+        let d : is_data e m ≡ true = ap (λ (z : ℤ). not (eq_z z void)) like ∙ own_data in
+        let w = get_or-take (size g) work m 0 (on_sheet g e len m d) in
+        let l : level_in (size g) work m ≡ 1 = level_one _ (rw w a) (rw w b) in
+        let d' = subst (λ (x : ℕ). is_data e x ≡ true) there d in
+        let same = subst (λ (x : ℕ). at e x ≡ at e cell) there like in
+        and_true (is_equal_lem g e cell p d' same) (eq-eqb _ 1 (subst (λ (x : ℕ). level_in (size g) work x ≡ 1) there l))
 
-  zero_missing : (at e m ≡ level_of k → 0 < get_or work m 0 → 256 ≤ get_or work m 0) → is_equal g e cell p ≡ true
-      → level_in (size g) work (neighbour g cell p) ≡ 1 → ⊥
-  zero_missing f t l =
-      let on = equal_on_sheet g e len cell p t in
-      let w = word_one _ l in
-      let q : get_or work m 0 ≡ get_or (take (size g) work) (neighbour g cell p) 0 =
-      ap (λ (x : ℕ). get_or work x 0) there ∙ sym (get_or-take (size g) work (neighbour g cell p) 0 on) in
-      let a = w.0 in
-      let b = w.1 in
-      let h = f (ap (at e) there ∙ equal_height g e cell p t ∙ own) (omega arith) in
-      omega arith
+    zero_known : zero_beside g e work cell p ≡ true → Zero
+    unfolding zero_beside
+    zero_known t =
+        let same = and_left (is_equal g e cell p) (eqb (level_in (size g) work (neighbour g cell p)) 1) t in
+        let one = eqb-true _ 1 (and_right (is_equal g e cell p) (eqb (level_in (size g) work (neighbour g cell p)) 1) t) in
+        let q : get_or work m 0 ≡ get_or (take (size g) work) (neighbour g cell p) 0 =
+        ap (λ (x : ℕ). get_or work x 0) there ∙ sym (get_or-take (size g) work (neighbour g cell p) 0 (equal_on_sheet g e len cell p same)) in
+        let w = word_one _ one in
+        let a = w.0 in
+        let b = w.1 in
+        (ap (at e) there ∙ equal_height g e cell p same ∙ agrees k k own void_bound refl, (omega arith, omega arith))
 
-  -- one position more: r says whether the neighbour there is one
-  pub looked_more : (found next : ℕ) (r : Bool) → p < 8 → Looked g e work cell p found
-      → (r ≡ true → (at e m ≡ level_of k) × ((0 < get_or work m 0) × (get_or work m 0 < 256)))
-      → (r ≡ false → at e m ≡ level_of k → 0 < get_or work m 0 → 256 ≤ get_or work m 0)
-      → next ≡ cond r p found → Looked g e work cell (p + 1) next
-  looked_more found next true hp L t f q = rw q ((λ h. zero_found (t refl)), λ h. let z : ⊥ = omega arith in absurd z)
-  looked_more found next false hp L t f q =
-      rw q (
-        L.0,
-        λ h. below_more
-            (λ x. is_equal g e cell x ≡ true → level_in (size g) work (neighbour g cell x) ≡ 1 → ⊥)
-            p (L.1 h) (zero_missing (f refl)),
-      )
+    pub zero_here : {r : Bool} → Decides r Zero → r ≡ zero_beside g e work cell p
+    zero_here {r} D = same_test r (zero_beside g e work cell p) (λ t. zero_found (D.0 t)) (λ t. D.1 (zero_known t))
+
+-- what the three tests of a cell say, where r is its key and w its word
+pub zero_tests : {z : ℤ} {r : ℕ} (k w : ℕ) → r ≡ key_of z → void ≤ℤ z
+    → Decides ((eqb r k && ltb 0 w) && ltb w 256) ((z ≡ level_of k) × ((0 < w) × (w < 256)))
+zero_tests {z} {r} k w q v =
+    Decides-like ((eqb r k && ltb 0 w) && ltb w 256) (λ h. (h.0.0, (h.0.1, h.1))) (λ h. ((h.0, h.1.0), h.1.1))
+    (Decides-and (eqb r k && ltb 0 w) (ltb w 256) (Decides-and (eqb r k) (ltb 0 w) height (Decides-ltb 0 w)) (Decides-ltb w 256))
+  where
+    height : Decides (eqb r k) (z ≡ level_of k)
+    height = Decides-like (eqb r k) (agrees k r q v) (λ h. q ∙ ap key_of h ∙ key_level k) (Decides-eqb r k)
+
+-- ---- whether some number below n has f: one number more, where r says whether it has f
+pub any_more : (n : ℕ) (f : ℕ → Bool) {found r : Bool} → found ≡ any_below n f → r ≡ f n → (found || r) ≡ any_below (n + 1) f
+unfolding any_below
+any_more n f h q = let more : n + 1 ≡ suc n = omega arith in rw more (ap₂ ◌||◌ h q)
+
+-- and where it has not
+pub any_same : (n : ℕ) (f : ℕ → Bool) {found : Bool} → found ≡ any_below n f → f n ≡ false → found ≡ any_below (n + 1) f
+any_same n f {found} h off = sym (same found) ∙ any_more n f h (sym off)
+  where
+    same : (b : Bool) → (b || false) ≡ b
+    same true = refl
+    same false = refl

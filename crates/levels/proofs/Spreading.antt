@@ -19,7 +19,7 @@ use Rattle.flow_laws.proofs.Equals.{is_equal_lem, equal_on, equal_back}
 use Rattle.flow_laws.proofs.Agree.{equal_data, equal_on_sheet}
 use Rattle.flow_laws.proofs.Words.{level_none, level_up, level_here, word_more, word_other, blank_data, data_level}
 use Rattle.flow_laws.proofs.Words.{queue_first, marked, searching_room, searching_most, searching_small}
-use Rattle.levels.specs.Touched.{TouchedAny}
+use Rattle.levels.specs.Touched.{Touched}
 use Rattle.levels.specs.Spreading.{Spreading}
 use Rattle.levels.proofs.Within.{other_flat, flat_within, flat_alike}
 
@@ -30,9 +30,9 @@ pub record Reading (g : Grid) (e : List ℤ) (half : ℕ) (work : List ℕ) (hea
   pub low : get_or work first 0 < size g + 257
   pub spreading : Spreading g e half work head tail first (get_or work first 0 + 1) 0
 
-pub reading : (g : Grid) (e : List ℤ) → length e ≡ size g → (half : ℕ) (work : List ℕ) (head tail : ℕ)
+pub reading : {g : Grid} {e : List ℤ} {half : ℕ} {work : List ℕ} {head tail : ℕ} → length e ≡ size g
     → Searching g e half work (size g) head tail → head < tail → Reading g e half work head tail (get_or work (half + head) 0)
-reading g e len half work head tail S h =
+reading {g} {e} {half} {work} {head} {tail} len S h =
     let on = (S.search.queued head h).0 in
     record {
       few = omega (arith, searching_most g e len half work S);
@@ -48,8 +48,8 @@ reading g e len half work head tail S h =
           };
     }
 
-module _ (g : Grid) (e : List ℤ) (len : length e ≡ size g) (half : ℕ) (work : List ℕ) (head tail : ℕ) where
-  module _ (x word p : ℕ) (P : Spreading g e half work head tail x word p) where
+module _ {g : Grid} {e : List ℤ} (len : length e ≡ size g) {half : ℕ} {work : List ℕ} {head tail : ℕ} where
+  module _ {x word p : ℕ} (P : Spreading g e half work head tail x word p) where
     pub x_on : x < size g
     x_on = rw P.first at (P.searching.search.queued head P.more).0
 
@@ -143,14 +143,14 @@ module _ (g : Grid) (e : List ℤ) (len : length e ≡ size g) (half : ℕ) (wor
               let r = up in
               omega arith
 
-    pub spreading_more : {work' : List ℕ} {m r : ℕ} → size g ≤ half → half + size g ≤ length work → p < 8
-        → m ≡ neighbour g x p → TouchedAny (size g) half work work' word tail m r → Spreading g e half work' head r x word (p + 1)
-    spreading_more {work'} {m} {r} hn hl hp q (inl (on, inl (a, b, f))) = rw (a, b) (spreading_passed (λ t. rw q at f))
-    spreading_more {work'} {m} {r} hn hl hp q (inl (on, inr (a, b, z))) =
-        rw (a, b, q) (spreading_marked hn hl hp (rw q at on) (rw q at z))
-    spreading_more {work'} {m} {r} hn hl hp q (inr (off, a, b)) =
-        -- no equal neighbour lies off the sheet
-        rw (a, b) (spreading_passed (λ t. let on = equal_on_sheet g e len x p t in let z : ⊥ = omega arith in absurd z))
+    -- no equal neighbour lies off the sheet
+    pub spreading_off : neighbour g x p ≡ size g → Spreading g e half work head tail x word (p + 1)
+    spreading_off off = spreading_passed (λ t. let on = equal_on_sheet g e len x p t in let z : ⊥ = omega arith in absurd z)
+
+    pub spreading_more : {work' : List ℕ} {m r : ℕ} → size g ≤ half → half + size g ≤ length work → p < 8 → m ≡ neighbour g x p
+        → m < size g → Touched half work work' word tail m r → Spreading g e half work' head r x word (p + 1)
+    spreading_more {work'} {m} {r} hn hl hp q on (inl (a, b, f)) = rw (a, b) (spreading_passed (λ t. rw q at f))
+    spreading_more {work'} {m} {r} hn hl hp q on (inr (a, b, z)) = rw (a, b, q) (spreading_marked hn hl hp (rw q at on) (rw q at z))
 
     pub spreading_end : 8 ≤ p → Searching g e half work (size g) (head + 1) tail
     spreading_end h =

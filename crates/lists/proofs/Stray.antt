@@ -54,27 +54,16 @@ module _ (g : Grid) (l : List ℕ) (i : ℕ) (straight : Straight g l i) where
   unfolding first_stray
   stray_found h t = sym (first_is (length l) (is_stray g l) i h t straight)
 
-  pub none_found : length l ≤ i → i ≤ length l → i ≡ first_stray g l
+  pub none_found : length l ≤ i → length l ≡ first_stray g l
   unfolding first_stray
-  none_found h k = let e : i ≡ length l = omega arith in e ∙ sym (first_none (length l) (is_stray g l) (λ j m. straight j (omega arith)))
+  none_found h = sym (first_none (length l) (is_stray g l) (λ j m. straight j (omega arith)))
 
 -- the walk has come to the place i: no place before it is stray, and row and column of the cell before it are kept
 pub record WalkedTo (g : Grid) (l : List ℕ) (i row col : ℕ) : Type 0 where
-  pub within : i ≤ length l
   pub straight : Straight g l i
   pub row_fits : row < 2 ^ 24
   pub col_fits : col < 2 ^ 24
   pub before : 0 < i → Before g l i row col
-
-pub walked_none : (g : Grid) (l : List ℕ) → WalkedTo g l 0 0 0
-walked_none g l =
-    record {
-      within = omega arith;
-      straight = λ j h. let z : ⊥ = omega arith in absurd z;
-      row_fits = omega arith;
-      col_fits = omega arith;
-      before = λ h. let z : ⊥ = omega arith in absurd z;
-    }
 
 pub walked_on : (g : Grid) (l : List ℕ) (i row col : ℕ) → WalkedTo g l i row col → size g ≤ 16000000 → i < length l →
     get_or l i 0 < size g → is_stray g l i ≡ false → WalkedTo g l (i + 1) (get_or l i 0 / g.cols) (get_or l i 0 % g.cols)
@@ -83,7 +72,6 @@ walked_on g l i row col w few h on e =
     let a = div-le_self (get_or l i 0) g.cols in
     let b = mod-le (get_or l i 0) g.cols in
     record {
-      within = omega arith;
       straight = below_more _ i w.straight e;
       row_fits = omega arith;
       col_fits = omega arith;

@@ -7,9 +7,11 @@ ghost use Rattle.std.specs.Prelude.{◌≡◌, ◌||◌, ◌<◌, ◌^◌, eqb};
 ghost use Rattle.grid.specs.Endings.{first_stray};
 ghost use Rattle.grid.specs.Promises.{ListsPromise};
 ghost use Rattle.checks.specs.Sizes.{Fits};
+ghost use Rattle.refusals.specs.Answers.{located_of};
 ghost use Rattle.lists.specs.Beside.{are_close, are_beside};
 
-use grid::{Grid, Located};
+use grid::Grid;
+use refusals::{Question, Refusal};
 
 // Whether two rows, or two columns, are at most one apart.
 fn are_close(x: usize, y: usize) -> bool
@@ -63,11 +65,10 @@ fn first_stray(g: Grid, list: &[u32]) -> usize
     ensures { result ≡ first_stray g list.now }
 {
     let cols = g.cols;
-    let mut i: usize = 0;
     let mut row: usize = 0;
     let mut col: usize = 0;
-    while i < list.len() {
-        let cell = list[i] as usize;
+    for (i, cell) in list.iter().enumerate() {
+        let cell = *cell as usize;
         if cell >= g.rows * cols {
             return i;
         }
@@ -78,35 +79,22 @@ fn first_stray(g: Grid, list: &[u32]) -> usize
         }
         row = next_row;
         col = next_col;
-        i += 1;
     }
-    i
+    list.len()
 }
 
 // 5, 6 and 19.
-pub fn check_lists(g: Grid, first: &[u32], second: &[u32]) -> Located
-    ensures { ListsPromise g first.now second.now result }
+pub fn check_lists(g: Grid, first: &[u32], second: &[u32]) -> Result<(), Refusal<usize>>
+    ensures { ListsPromise g first.now second.now (located_of result) }
 {
-    let answer = checks::rows_and_cols(g);
-    if answer.number != 0 {
-        return checks::located(answer);
-    }
+    checks::rows_and_cols(g)?;
     let stray = first_stray(g, first);
     if stray < first.len() {
-        return Located {
-            number: 19,
-            place: stray,
-        };
+        return Err(Question::ListedCells.at(stray));
     }
     let other = first_stray(g, second);
     if other < second.len() {
-        return Located {
-            number: 19,
-            place: other,
-        };
+        return Err(Question::ListedCells.at(other));
     }
-    Located {
-        number: 0,
-        place: 0,
-    }
+    Ok(())
 }

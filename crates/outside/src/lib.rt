@@ -11,27 +11,16 @@ ghost use Rattle.cells.specs.Marks.{Marked};
 ghost use Rattle.join_laws.specs.Search.{Parts};
 ghost use Rattle.outside.specs.Seeds.{SeedsOn, Side};
 
+use cells::Sheet;
 use grid::Grid;
-
-// The lower of two keys: a choice of a number, so that the loop around it has no branch.
-fn lower(a: u16, b: u16) -> u16
-    ensures { (result ≤ a) × (result ≤ b) }
-{
-    if b < a {
-        return b;
-    }
-    a
-}
 
 // Whether some cell may be void: the lowest key is 0.
 pub fn has_void(elevations: &[i16]) -> bool
     ensures { result ≡ false → (c : ℕ) → c < length elevations.now → is_data elevations.now c ≡ true }
 {
     let mut low: u16 = 65535;
-    let mut cell: usize = 0;
-    while cell < elevations.len() {
-        low = lower(low, cells::short_key_at(elevations, cell));
-        cell += 1;
+    for cell in 0..elevations.len() {
+        low = low.min(cells::short_key_at(elevations, cell));
     }
     low == 0
 }
@@ -40,10 +29,7 @@ pub fn has_void(elevations: &[i16]) -> bool
 fn void_mark(key: u16) -> u32
     ensures { (key ≡ 0 → result ≡ 1) × ((key ≡ 0 → ⊥) → result ≡ 0) }
 {
-    if key == 0 {
-        return 1;
-    }
-    0
+    if key == 0 { 1 } else { 0 }
 }
 
 // Marks every cell as a void that is not outside, or as data.
@@ -53,10 +39,8 @@ fn mark_voids(elevations: &[i16], base: usize, work: &mut [u32])
         get_or work.new (base + c) 0 ≡ cond (is_data elevations.now c) 0 1 }
     ensures by_index_2 { (i : ℕ) → i < base → get_or work.new i 0 ≡ get_or work.old i 0 }
 {
-    let mut cell: usize = 0;
-    while cell < elevations.len() {
+    for cell in 0..elevations.len() {
         work[base + cell] = void_mark(cells::short_key_at(elevations, cell));
-        cell += 1;
     }
 }
 
@@ -85,11 +69,16 @@ fn seed_side(
         return len;
     }
     let mut tail = len;
-    let mut i: usize = 0;
-    while i < count {
-        let n = g.rows * g.cols;
-        tail = join::touch(n, half, base, 2, tail, start + i * stride, work);
-        i += 1;
+    for i in 0..count {
+        tail = join::touch(
+            g.rows * g.cols,
+            half,
+            base,
+            2,
+            tail,
+            start + i * stride,
+            work,
+        );
     }
     tail
 }
@@ -112,21 +101,18 @@ fn seed_sides(g: Grid, half: usize, base: usize, work: &mut [u32]) -> usize
 }
 
 // Marks every void; what lies in the first half of the work buffer stays.
-pub fn mark(g: Grid, elevations: &[i16], work: &mut [u32])
-    requires elevations_len { length elevations.now ≡ size g }
-    requires g_bound { size g < 2 ^ 24 }
-    requires cols_bound { g.cols < 2 ^ 24 }
-    requires g_in_bounds { 4 * size g ≤ length work.old }
-    ensures marked { Marked g elevations.now (length work.old / 2 + size g) work.new }
+pub fn mark(s: &Sheet, work: &mut [u32])
+    requires { 4 * size s.now.grid ≤ length work.old }
+    ensures marked { Marked s.now.grid s.now.elevations.now (length work.old / 2 + size s.now.grid) work.new }
     ensures by_index { (i : ℕ) → i < length work.old / 2 → get_or work.new i 0 ≡ get_or work.old i 0 }
 {
-    let n = g.rows * g.cols;
+    let n = s.grid.rows * s.grid.cols;
     if n == 0 {
         return;
     }
     let half = work.len() / 2;
     let base = half + n;
-    mark_voids(elevations, base, work);
-    let len = seed_sides(g, half, base, work);
-    join::join(g, half, base, 2, len, work);
+    mark_voids(s.elevations, base, work);
+    let len = seed_sides(s.grid, half, base, work);
+    join::join(s.grid, half, base, 2, len, work);
 }

@@ -5,7 +5,7 @@ use mathlib.Core.List.{List}
 use Prim.Native.Nat.{ℕ, ◌+◌, ◌-◌, ◌/◌, ◌%◌, ◌≤◌, ◌<◌}
 use native.Mathlib.Omega.{arith}
 use native.Mathlib.Decide.{ℕ_discrete}
-use lib.ListN.{length, get_or, set, length-set}
+use lib.ListN.{length, get_or, set}
 use lib.Seq.{get_or-set_same, get_or-set_other, ext_get_or}
 use lib.IntN.{ℤ}
 use Rattle.grid.specs.declared.Grid.{Grid}
@@ -23,24 +23,6 @@ use Rattle.pond_numbers.specs.State.{Sizes, Numbered}
 use Rattle.pond_columns.specs.State.{Cleared, Added, HasRoom, OneLength}
 
 -- ---- clearing
-
-pub cleared_none : (l : List ℕ) → Cleared 0 l l
-cleared_none l = record { column = column_same 0 0 l; zero = λ k h. let z : ⊥ = omega arith in absurd z }
-
-pub cleared_more : {old : List ℕ} (l : List ℕ) (k : ℕ) → k < length l → Cleared k old l → Cleared (k + 1) old (set l k 0)
-cleared_more l k h C =
-    record {
-      column =
-          record {
-            same_length = length-set l k 0 ∙ C.column.same_length;
-            past = λ j b. get_or-set_other l k j 0 0 (λ q. omega arith) ∙ C.column.past j (omega arith);
-          };
-      zero = λ j b. go j b (ℕ_discrete j k);
-    }
-  where
-    go : (j : ℕ) → j < k + 1 → Dec (j ≡ k) → get_or (set l k 0) j 0 ≡ 0
-    go j b (yes q) = rw q (get_or-set_same l k 0 0 h)
-    go j b (no f) = get_or-set_other l k j 0 0 f ∙ C.zero j (let d = f in omega arith)
 
 pub one_cleared : {count : ℕ} {level : List ℤ} {cells₀ cells volume₀ volume : List ℕ} → OneLength level cells₀ volume₀ →
     Cleared count cells₀ cells → Cleared count volume₀ volume → OneLength level cells volume

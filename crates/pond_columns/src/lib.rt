@@ -22,12 +22,8 @@ fn clear(count: usize, cells: &mut [u32], volume: &mut [u64])
     ensures cleared { Cleared count cells.old cells.new }
     ensures cleared_2 { Cleared count volume.old volume.new }
 {
-    let mut k: usize = 0;
-    while k < count {
-        cells[k] = 0;
-        volume[k] = 0;
-        k += 1;
-    }
+    cells[..count].fill(0);
+    volume[..count].fill(0);
 }
 
 // Adds a cell to the pond at the place `k`.
@@ -37,8 +33,8 @@ fn put(k: usize, word: u32, level: &mut [i16], cells: &mut [u32], volume: &mut [
         volume.new }
 {
     level[k] = cells::elevation(word / 65536);
-    cells[k] = cells[k] + 1;
-    volume[k] = volume[k] + (word / 65536 - word % 65536) as u64;
+    cells[k] += 1;
+    volume[k] += (word / 65536 - word % 65536) as u64;
 }
 
 // Adds a cell to the pond of its mark, if it has one.
@@ -47,20 +43,9 @@ fn add(mark: u32, word: u32, level: &mut [i16], cells: &mut [u32], volume: &mut 
     ensures { Added mark word level.old level.new cells.old cells.new
         volume.old volume.new }
 {
-    if mark < 2 {
-        return;
+    if mark >= 2 {
+        put((mark - 2) as usize, word, level, cells, volume);
     }
-    put((mark - 2) as usize, word, level, cells, volume);
-}
-
-// The number of a pond by its mark, 0 for no pond.
-fn pond_number(mark: u32) -> u32
-    ensures { result ≡ mark - 1 }
-{
-    if mark < 1 {
-        return 0;
-    }
-    mark - 1
 }
 
 // Writes the pond numbers, and adds each cell to the columns, whose first places are 0.
@@ -87,12 +72,11 @@ fn gather(
         cells.new volume.old volume.new }
 {
     let n = g.rows * g.cols;
-    let mut c: usize = 0;
-    while c < n {
+    for c in 0..n {
+        // A pond's number is one less than its mark, 0 for no pond.
         let mark = mark_at(g, c, work);
-        ponds[c] = pond_number(mark);
+        ponds[c] = mark.saturating_sub(1);
         add(mark, work[c], level, cells, volume);
-        c += 1;
     }
 }
 

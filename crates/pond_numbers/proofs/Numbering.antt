@@ -4,10 +4,9 @@ use mathlib.Core.Bool.{Bool, cond}
 use mathlib.Core.List.{List}
 use Prim.Native.Nat.{ℕ, ◌+◌, ◌/◌, ◌%◌, ◌≤◌, ◌<◌}
 use native.Mathlib.Omega.{arith}
-use native.Mathlib.Decide.{ℕ_discrete}
 use lib.Dec.{ltb}
 use lib.ListN.{length, get_or, set, length-set}
-use lib.Seq.{get_or-set_same, get_or-set_other}
+use lib.Seq.{get_or-set_same}
 use lib.IntN.{ℤ}
 use Rattle.grid.specs.declared.Grid.{Grid}
 use Rattle.grid.specs.Below.{table}
@@ -33,17 +32,6 @@ wet_mark word = cond (ltb (word % 65536) (word / 65536)) 1 0
 -- the first c cells are marked, after the n words
 abbrev pub MarkedTo : ℕ → List ℕ → List ℕ → ℕ → Type 0
 MarkedTo n w₀ w c = ((x : ℕ) → x < n → get_or w x 0 ≡ get_or w₀ x 0) × ((x : ℕ) → x < c → get_or w (n + x) 0 ≡ wet_mark (get_or w₀ x 0))
-
-pub mark_more : (n : ℕ) (w₀ w : List ℕ) (c v : ℕ) → c < n → n + n ≤ length w → v ≡ wet_mark (get_or w c 0) → MarkedTo n w₀ w c →
-    MarkedTo n w₀ (set w (n + c) v) (c + 1)
-mark_more n w₀ w c v h l e M = (
-  λ x k. get_or-set_other w (n + c) x v 0 (λ q. omega arith) ∙ M.0 x k,
-  λ x k. go x k (ℕ_discrete x c),
-)
-  where
-    go : (x : ℕ) → x < c + 1 → Dec (x ≡ c) → get_or (set w (n + c) v) (n + x) 0 ≡ wet_mark (get_or w₀ x 0)
-    go x k (yes q) = rw q (get_or-set_same w (n + c) v 0 (omega arith) ∙ e ∙ ap wet_mark (M.0 c h))
-    go x k (no f) = get_or-set_other w (n + c) (n + x) v 0 (λ q. f (omega arith)) ∙ M.1 x (let d = f in omega arith)
 
 part_table : (w : List ℕ) (n start : ℕ) (f : ℕ → ℕ) → ((i : ℕ) → i < n → get_or w (start + i) 0 ≡ f i) → part_of n start w ≡ table n f
 unfolding part_of

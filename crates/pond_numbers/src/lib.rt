@@ -15,10 +15,7 @@ use grid::Grid;
 fn wet_mark(word: u32) -> u32
     ensures { result ≡ cond (ltb (word % 65536) (word / 65536)) 1 0 }
 {
-    if word % 65536 < word / 65536 {
-        return 1;
-    }
-    0
+    if word % 65536 < word / 65536 { 1 } else { 0 }
 }
 
 // Marks the wet cells.
@@ -29,10 +26,8 @@ fn mark_wet(g: Grid, elevations: &[i16], work: &mut [u32])
     ensures { Numbered g elevations.now work.new 0 0 }
 {
     let n = g.rows * g.cols;
-    let mut c: usize = 0;
-    while c < n {
+    for c in 0..n {
         work[n + c] = wet_mark(work[c]);
-        c += 1;
     }
 }
 
@@ -46,6 +41,7 @@ pub fn mark_at(g: Grid, c: usize, work: &[u32]) -> u32
 }
 
 // Numbers the pond whose lowest cell is `c`, after `count` others.
+#[tactic(auto, using(crate::proofs::Numbering::few_ponds))]
 fn number_at(
     g: Grid,
     elevations: &[i16],
@@ -76,12 +72,10 @@ fn number(g: Grid, elevations: &[i16], work: &mut [u32]) -> u32
     let n = g.rows * g.cols;
     let half = work.len() / 2;
     let mut count: u32 = 0;
-    let mut c: usize = 0;
-    while c < n {
+    for c in 0..n {
         if mark_at(g, c, work) == 1 {
             count = number_at(g, elevations, half, c, count, work);
         }
-        c += 1;
     }
     count
 }

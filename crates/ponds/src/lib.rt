@@ -6,12 +6,15 @@ ghost use Rattle.std.specs.Prelude.{◌≡◌, length};
 ghost use Rattle.grid.specs.Sheet.{size, SixteenBits};
 ghost use Rattle.grid.specs.Checks.{ask_reach};
 ghost use Rattle.grid.specs.Promises.{PondsPromise};
+ghost use Rattle.refusals.specs.Answers.{counted_of};
 ghost use Rattle.fill.specs.Words.{Words};
 ghost use Rattle.pond_numbers.specs.State.{Sizes};
 ghost use Rattle.pond_columns.specs.State.{OneLength};
 ghost use Rattle.ponds.specs.State.{asked14, Settled};
 
-use grid::{Counted, Grid};
+use cells::Sheet;
+use grid::Grid;
+use refusals::{Question, Refusal};
 
 // From the flood's words: the ponds, question 14, and the results after a yes.
 fn list_found(
@@ -22,7 +25,7 @@ fn list_found(
     cells: &mut [u32],
     volume: &mut [u64],
     work: &mut [u32],
-) -> Counted
+) -> Result<u32, Refusal<u32>>
     requires sizes { Sizes g elevations.now (length work.old) }
     requires ponds_len { length ponds.old ≡ size g }
     requires one_length { OneLength level.old cells.old volume.old }
@@ -30,22 +33,14 @@ fn list_found(
     requires words { Words g elevations.now work.old }
     ensures { Settled g elevations.now ponds.old ponds.new level.old level.new
         cells.old cells.new volume.old volume.new
-        (asked14 g elevations.now level.old) result }
+        (asked14 g elevations.now level.old) (counted_of result) }
 {
     let count = pond_numbers::find(g, elevations, work);
     if level.len() < count as usize {
-        return Counted {
-            number: 14,
-            place: count,
-            count: 0,
-        };
+        return Err(Question::Columns.at(count));
     }
     pond_columns::list(g, elevations, count, work, ponds, level, cells, volume);
-    Counted {
-        number: 0,
-        place: 0,
-        count: count,
-    }
+    Ok(count)
 }
 
 // The flood, question 18, and then 14 and the results.
@@ -57,21 +52,21 @@ fn settle(
     cells: &mut [u32],
     volume: &mut [u64],
     work: &mut [u32],
-) -> Counted
+) -> Result<u32, Refusal<u32>>
     requires sizes { Sizes g elevations.now (length work.old) }
     requires ponds_len { length ponds.old ≡ size g }
     requires one_length { OneLength level.old cells.old volume.old }
     ensures { Settled g elevations.now ponds.old ponds.new level.old level.new
         cells.old cells.new volume.old volume.new
-        (ask_reach g elevations.now (asked14 g elevations.now level.old)) result }
+        (ask_reach g elevations.now (asked14 g elevations.now level.old)) (counted_of result) }
 {
-    let first = fill::fill_sheet(g, elevations, work);
+    let sheet = Sheet {
+        grid: g,
+        elevations,
+    };
+    let first = fill::fill_sheet(&sheet, work);
     if first < elevations.len() {
-        return Counted {
-            number: 18,
-            place: first as u32,
-            count: 0,
-        };
+        return Err(Question::Chains.at(first as u32));
     }
     list_found(g, elevations, ponds, level, cells, volume, work)
 }
@@ -85,34 +80,19 @@ pub fn ponds(
     cells: &mut [u32],
     volume: &mut [u64],
     work: &mut [u32],
-) -> Counted
+) -> Result<u32, Refusal<u32>>
     ensures { PondsPromise g elevations.now ponds.old ponds.new level.old
         level.new cells.old cells.new volume.old volume.new work.old
-        work.new result }
+        work.new (counted_of result) }
 {
     let given = elevations.len();
     let wanted = ponds.len();
-    let answer = checks::outlets(g, given, wanted, wanted, wanted, wanted);
-    if answer.number != 0 {
-        return Counted {
-            number: answer.number,
-            place: answer.place,
-            count: 0,
-        };
-    }
+    checks::outlets(g, given, wanted, wanted, wanted, wanted)?;
     if !checks::both_have(level.len(), cells.len(), volume.len()) {
-        return Counted {
-            number: 8,
-            place: 0,
-            count: 0,
-        };
+        return Err(Question::Results.into());
     }
     if !checks::has_room(g, work.len()) {
-        return Counted {
-            number: 9,
-            place: 0,
-            count: 0,
-        };
+        return Err(Question::WorkBuffer.into());
     }
     settle(g, elevations, ponds, level, cells, volume, work)
 }

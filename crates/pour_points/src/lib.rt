@@ -9,98 +9,64 @@ ghost use Rattle.grid.specs.Sheet.{size};
 ghost use Rattle.grid.specs.Checks.{all_have};
 ghost use Rattle.grid.specs.PourPoints.{pour_points};
 ghost use Rattle.grid.specs.Promises.{PourPointsPromise};
-ghost use Rattle.pour_laws.specs.Batch.{capacity, Room, Batch, Scanned};
-ghost use Rattle.pour_laws.specs.Lines.{lines};
-ghost use Rattle.pour_laws.specs.Columns.{OneLength, Settled, no_room, counted};
+ghost use Rattle.pour_laws.specs.Batch.{capacity, Scanned};
+ghost use Rattle.pour.specs.Taken.{Holds, candidates, entries};
+ghost use Rattle.pour_laws.specs.Columns.{OneLength, Settled};
+ghost use Rattle.refusals.specs.Answers.{counted_of};
 
-use grid::{Counted, Grid};
-use pour::CAPACITY;
+use grid::Grid;
+use pour::{Batch, CAPACITY, Sheets};
+use refusals::{Question, Refusal};
 
-// The answer of 14, and of a yes to it.
-fn short(n: usize) -> Counted
-    requires { n < 4294967296 }
-    ensures { result ≡ no_room n }
-{
-    Counted {
-        number: 14,
-        place: n as u32,
-        count: 0,
-    }
-}
-
-fn held(n: usize) -> Counted
-    requires { n < 4294967296 }
-    ensures { result ≡ counted n }
-{
-    Counted {
-        number: 0,
-        place: 0,
-        count: n as u32,
-    }
-}
-
-// Question 14 and the columns where one batch of `k` has all entries.
+// Question 14 and the columns where one batch has all entries.
 fn settle_few(
-    g: Grid,
-    elevations: &[i16],
-    labels: &[u32],
-    k: usize,
-    pairs: &[u64; CAPACITY],
-    ranks: &[u64; CAPACITY],
+    sheets: &Sheets,
+    batch: &Batch,
     smaller: &mut [u32],
     larger: &mut [u32],
     elevation: &mut [i16],
     cell: &mut [u32],
-) -> Counted
-    requires room { Room k pairs.now ranks.now }
-    requires elevations_len { length elevations.now ≡ size g }
-    requires batch { Batch capacity 0 (lines g elevations.now labels.now g.rows) k pairs.now ranks.now }
-    requires k_lt_capacity { k < capacity }
+) -> Result<u32, Refusal<u32>>
+    requires batch { Holds 0 (candidates sheets.now) batch.now }
+    requires not_full { batch.now.count < capacity }
     requires one_length { OneLength smaller.old larger.old elevation.old cell.old }
-    ensures { Settled (pour_points g elevations.now labels.now) smaller.old smaller.new
+    ensures { Settled (entries sheets.now) smaller.old smaller.new
         larger.old larger.new elevation.old elevation.new cell.old cell.new
-        result }
+        (counted_of result) }
 {
+    let k = batch.count;
     if smaller.len() < k {
-        return short(k);
+        return Err(Question::Columns.at(k as u32));
     }
-    pour_columns::put_entries(pairs, ranks, k, 0, smaller, larger, elevation, cell);
-    held(k)
+    pour_columns::put_entries(batch, 0, smaller, larger, elevation, cell);
+    Ok(k as u32)
 }
 
-// The same where the first batch of `k` is full.
+// The same where the first batch is full.
 fn settle_many(
-    g: Grid,
-    elevations: &[i16],
-    labels: &[u32],
-    k: usize,
-    pairs: &mut [u64; CAPACITY],
-    ranks: &mut [u64; CAPACITY],
+    sheets: &Sheets,
+    batch: &mut Batch,
     smaller: &mut [u32],
     larger: &mut [u32],
     elevation: &mut [i16],
     cell: &mut [u32],
-) -> Counted
-    requires room { Room k pairs.old ranks.old }
-    requires scanned { Scanned g labels.now }
-    requires elevations_len { length elevations.now ≡ size g }
-    requires batch { Batch capacity 0 (lines g elevations.now labels.now g.rows) k pairs.old ranks.old }
+) -> Result<u32, Refusal<u32>>
+    requires batch { Holds 0 (candidates sheets.now) batch.old }
     requires one_length { OneLength smaller.old larger.old elevation.old cell.old }
-    ensures { Settled (pour_points g elevations.now labels.now) smaller.old smaller.new
+    ensures { Settled (entries sheets.now) smaller.old smaller.new
         larger.old larger.new elevation.old elevation.new cell.old cell.new
-        result }
+        (counted_of result) }
 {
-    let n = pour_columns::count_on(g, elevations, labels, k, pairs, ranks);
+    let n = pour_columns::count_on(sheets, batch);
+    let count = n as u32;
     if smaller.len() < n {
-        return short(n);
+        return Err(Question::Columns.at(count));
     }
-    pour_columns::write_all(
-        g, elevations, labels, pairs, ranks, smaller, larger, elevation, cell,
-    );
-    held(n)
+    pour_columns::write_all(sheets, batch, smaller, larger, elevation, cell);
+    Ok(count)
 }
 
-// Question 14 and the columns, for columns of one length.
+// Question 14 and the columns, for columns of one length. The batch lives here alone, and all else borrows it.
 fn settle(
     g: Grid,
     elevations: &[i16],
@@ -109,25 +75,29 @@ fn settle(
     larger: &mut [u32],
     elevation: &mut [i16],
     cell: &mut [u32],
-) -> Counted
+) -> Result<u32, Refusal<u32>>
     requires scanned { Scanned g labels.now }
     requires elevations_len { length elevations.now ≡ size g }
     requires one_length { OneLength smaller.old larger.old elevation.old cell.old }
     ensures { Settled (pour_points g elevations.now labels.now) smaller.old smaller.new
         larger.old larger.new elevation.old elevation.new cell.old cell.new
-        result }
+        (counted_of result) }
 {
-    let mut pairs = [0u64; CAPACITY];
-    let mut ranks = [0u64; CAPACITY];
-    let k = pour::scan(g, elevations, labels, 0, &mut pairs, &mut ranks);
-    if k < CAPACITY {
-        return settle_few(
-            g, elevations, labels, k, &pairs, &ranks, smaller, larger, elevation, cell,
-        );
+    let sheets = Sheets {
+        g,
+        elevations,
+        labels,
+    };
+    let mut batch = Batch {
+        pairs: [0; CAPACITY],
+        ranks: [0; CAPACITY],
+        count: 0,
+    };
+    batch.scan(&sheets, 0);
+    if batch.count < CAPACITY {
+        return settle_few(&sheets, &batch, smaller, larger, elevation, cell);
     }
-    settle_many(
-        g, elevations, labels, k, &mut pairs, &mut ranks, smaller, larger, elevation, cell,
-    )
+    settle_many(&sheets, &mut batch, smaller, larger, elevation, cell)
 }
 
 // "have the four columns of Table 6 one length?"
@@ -152,25 +122,14 @@ pub fn pour_points(
     larger: &mut [u32],
     elevation: &mut [i16],
     cell: &mut [u32],
-) -> Counted
+) -> Result<u32, Refusal<u32>>
     ensures { PourPointsPromise g elevations.now labels.now smaller.old smaller.new
         larger.old larger.new elevation.old elevation.new cell.old cell.new
-        result }
+        (counted_of result) }
 {
-    let answer = checks::inputs(g, elevations.len(), labels.len());
-    if answer.number != 0 {
-        return Counted {
-            number: answer.number,
-            place: answer.place,
-            count: 0,
-        };
-    }
+    checks::inputs(g, elevations.len(), labels.len())?;
     if !one_length(smaller.len(), larger.len(), elevation.len(), cell.len()) {
-        return Counted {
-            number: 8,
-            place: 0,
-            count: 0,
-        };
+        return Err(Question::Results.into());
     }
     settle(g, elevations, labels, smaller, larger, elevation, cell)
 }

@@ -2,22 +2,23 @@
 use mathlib.Core.Path.{◌≡◌, refl, sym, ap, ◌∙◌}
 use mathlib.Core.Bool.{true, false, cond}
 use mathlib.Core.List.{List, ◌++◌}
-use Prim.Native.Nat.{ℕ, ◌+◌, ◌≤◌, ◌<◌}
+use Prim.Native.Nat.{ℕ, ◌≤◌, ◌<◌}
 use native.Mathlib.Nat.{mul-le-mul}
 use native.Mathlib.Omega.{arith}
 use lib.IntN.{ℤ}
 use lib.ListN.{length, drop}
 use borrow.Author.Tests.{le-leb, lt-leb, eq-eqb, ne_eqb}
 use Rattle.grid.specs.declared.Grid.{Grid}
-use Rattle.grid.specs.declared.Answer.{Answer}
-use Rattle.grid.specs.declared.Dimensions.{Dimensions}
 use Rattle.grid.specs.Sheet.{size}
 use Rattle.grid.specs.Checks.{refusal, accepted, is_accepted, in_range, ask_size}
 use Rattle.grid.specs.Frames.{text_grid, is_shaped, first_bad_byte, read_check, text_sheet}
 use Rattle.grid.specs.Promises.{ReadPromise}
 use Rattle.checks.proofs.Gate.{passed, is_accepted_lem, by_answer}
 use Rattle.text_laws.proofs.Asked.{text_gate, Announced, announces, few_gate}
-use Rattle.reader.specs.Parts.{text_check, size_check, without_size}
+use Rattle.refusals.specs.declared.Refusal.{Refusal}
+use Rattle.refusals.specs.Answers.{refused, refused_dimensions}
+use Rattle.refusals.proofs.Answers.{is_no}
+use Rattle.reader.specs.Parts.{text_check, size_check}
 
 -- ---- one question at a time
 
@@ -84,28 +85,23 @@ size_accepted g room h = ((passed (few_gate g room) refl h).fact.room_for, is_ac
 
 module _ (text : List ℕ) (e₀ : List ℤ) where
   -- beside a no
-  refused : (a : Answer) (r : Dimensions) → r ≡ without_size a → a ≡ read_check text (length e₀) → (a.number ≡ 0 → ⊥) →
-      ReadPromise text e₀ e₀ r
-  refused a r w q n = rw w record {
-    answer = q;
-    rows = rw (ne_eqb a.number 0 n);
-    cols = rw (ne_eqb a.number 0 n);
-    result = rw (ne_eqb a.number 0 n);
-  }
+  beside_no : (r : Refusal ℕ) → refused r ≡ read_check text (length e₀) → ReadPromise text e₀ e₀ (refused_dimensions r)
+  beside_no r q =
+      let n = ne_eqb (refused r).number 0 (is_no r) in
+      record { answer = q; rows = rw n; cols = rw n; result = rw n }
 
-  pub text_refused : (a : Answer) (r : Dimensions) → r ≡ without_size a → a ≡ text_check text → (a.number ≡ 0 → ⊥) →
-      ReadPromise text e₀ e₀ r
-  text_refused a r w q n =
-      let k : is_accepted (text_check text) ≡ false = rw q at (ne_eqb a.number 0 n) in
-      refused a r w (q ∙ sym (in_parts text (length e₀) ∙ rw k)) n
+  pub text_refused : (r : Refusal ℕ) → refused r ≡ text_check text → ReadPromise text e₀ e₀ (refused_dimensions r)
+  text_refused r q =
+      let k : is_accepted (text_check text) ≡ false = ap is_accepted (sym q) ∙ ne_eqb (refused r).number 0 (is_no r) in
+      beside_no r (q ∙ sym (in_parts text (length e₀) ∙ rw k))
 
   module _ (fine : (text_check text).number ≡ 0) where
     to_size : (g : Grid) → g ≡ text_grid text → read_check text (length e₀) ≡ size_check g (length e₀)
     to_size g s = in_parts text (length e₀) ∙ rw (eq-eqb (text_check text).number 0 fine, s)
 
-    pub size_refused : (g : Grid) (a : Answer) (r : Dimensions) → g ≡ text_grid text → r ≡ without_size a → a ≡ size_check g (length e₀)
-        → (a.number ≡ 0 → ⊥) → ReadPromise text e₀ e₀ r
-    size_refused g a r s w q n = refused a r w (q ∙ sym (to_size g s)) n
+    pub size_refused : (g : Grid) (r : Refusal ℕ) → g ≡ text_grid text → refused r ≡ size_check g (length e₀) →
+        ReadPromise text e₀ e₀ (refused_dimensions r)
+    size_refused g r s q = beside_no r (q ∙ sym (to_size g s))
 
     -- after the last yes
     pub all_read : (g : Grid) (e₁ : List ℤ) → g ≡ text_grid text → size_check g (length e₀) ≡ accepted

@@ -3,7 +3,6 @@
 use Rattle.std.specs.Prelude.{ℕ, List, eqb, leb, length}
 use Rattle.grid.specs.declared.Grid.{Grid}
 use Rattle.grid.specs.declared.Answer.{Answer}
-use Rattle.grid.specs.declared.Dimensions.{Dimensions}
 use Rattle.grid.specs.Sheet.{size}
 use Rattle.grid.specs.Checks.{refusal, accepted, ask, ask_size}
 use Rattle.grid.specs.Frames.{first_bad_byte, is_shaped}
@@ -17,7 +16,3 @@ text_check text =
 -- 4, 5, 6 and 8
 unfoldable pub size_check : Grid → (room : ℕ) → Answer
 size_check g room = ask (leb (size g) 2304) (refusal 4 0) (ask_size g (ask (leb (size g) room) (refusal 8 0) accepted))
-
--- an answer that reports no rows and no columns
-abbrev pub without_size : Answer → Dimensions
-without_size a = record { number = a.number; place = a.place; rows = 0; cols = 0 }

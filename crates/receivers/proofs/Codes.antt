@@ -1,9 +1,9 @@
 -- Codes by table, and the mark of a cell by the tests that a program makes.
-use mathlib.Core.Path.{◌≡◌, refl, sym, ◌∙◌, ap, subst}
+use mathlib.Core.Path.{◌≡◌, refl, sym, ◌∙◌, ap, ap₂, subst}
 use mathlib.Core.Logic.{◌⊎◌, inl, inr, ⊎_elim}
 use mathlib.Core.Bool.{Bool, true, false, not, cond, ◌&&◌}
 use mathlib.Core.List.{List}
-use Prim.Native.Nat.{ℕ, ◌+◌, ◌*◌, ◌/◌, ◌%◌, ◌^◌, ◌≤◌, ◌<◌}
+use Prim.Native.Nat.{ℕ, zero, suc, ◌+◌, ◌*◌, ◌/◌, ◌%◌, ◌^◌, ◌≤◌, ◌<◌}
 use native.Mathlib.Omega.{arith}
 use native.Mathlib.Decide.{dec_lt}
 use lib.Dec.{eqb, ltb, lit<}
@@ -25,11 +25,29 @@ use Rattle.cells.specs.Steps.{down_of, right_of, Inner, Offsets}
 use Rattle.cells.proofs.Steps.{inner_offset}
 use Rattle.receivers.specs.Written.{is_allowed, bad_table, FirstBad, ReachTable}
 
--- ---- the table of what is no code
-pub bad_table_is : set (set (set (set (set (set (set (set (set (replicate 256 1) 0 0) 1 0) 2 0) 4 0) 8 0) 16 0) 32 0) 64 0) 128
-    0 ≡ bad_table
-unfolding bad_table table is_allowed position_of first_below
-bad_table_is = refl
+-- ---- the table of what is no code, once the codes of the first p positions are taken out
+unfoldable pub bad_but : ℕ → List ℕ
+bad_but zero = set (replicate 256 1) 0 0
+bad_but (suc p) = set (bad_but p) (code_at p) 0
+
+pub length_bad_but : (p : ℕ) → length (bad_but p) ≡ 256
+unfolding bad_but
+length_bad_but zero = refl
+length_bad_but (suc p) = length-set (bad_but p) (code_at p) 0 ∙ length_bad_but p
+
+pub bad_none : set (replicate 256 1) 0 0 ≡ bad_but 0
+unfolding bad_but
+bad_none = refl
+
+pub bad_more : (l : List ℕ) (p k : ℕ) → k ≡ code_at p → l ≡ bad_but p → set l k 0 ≡ bad_but (p + 1)
+unfolding bad_but
+bad_more l p k e q =
+    let s : suc p ≡ p + 1 = omega arith in
+    ap₂ (λ (x : List ℕ) (y : ℕ). set x y 0) q e ∙ ap bad_but s
+
+pub bad_table_is : (l : List ℕ) (p : ℕ) → p ≡ 8 → l ≡ bad_but p → l ≡ bad_table
+unfolding bad_but bad_table table is_allowed position_of first_below
+bad_table_is l p e q = q ∙ ap bad_but e
 
 pub at_bad_table : (k : ℕ) → k < 256 → get_or bad_table k 0 ≡ cond (is_allowed k) 0 1
 unfolding bad_table
@@ -90,7 +108,6 @@ module _ (g : Grid) (codes : List ℕ) where
 
 -- ---- the table of reaches, while it is written
 pub record ReachTo (offsets reach : List ℕ) (p : ℕ) : Type 0 where
-  pub within : p ≤ 8
   pub long : length reach ≡ 256
   pub at : (q : ℕ) → q < p → get_or reach (code_at q) 0 ≡ get_or offsets q 0
 
@@ -103,9 +120,6 @@ codes_differ p q h l e =
     let z : ⊥ = omega arith in
     z
 
-pub reach_none : (offsets reach : List ℕ) → length reach ≡ 256 → ReachTo offsets reach 0
-reach_none offsets reach h = record { within = omega arith; long = h; at = λ q l. let z : ⊥ = omega arith in absurd z }
-
 pub code_small : (p k : ℕ) → p < 8 → k ≡ code_at p → k < 256
 code_small p k h e = rw e (codes_small p h)
 
@@ -113,7 +127,6 @@ pub reach_more : (offsets reach : List ℕ) (p k : ℕ) → p < 8 → k ≡ code
     ReachTo offsets (set reach k (get_or offsets p 0)) (p + 1)
 reach_more offsets reach p k h e R =
     record {
-      within = omega arith;
       long = length-set reach k (get_or offsets p 0) ∙ R.long;
       at =
           below_more (λ q. get_or (set reach k (get_or offsets p 0)) (code_at q) 0 ≡ get_or offsets q 0) p

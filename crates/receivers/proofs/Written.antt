@@ -1,10 +1,10 @@
 -- The list of receivers while it is written, place by place; rows and columns along the numbering.
-use mathlib.Core.Path.{◌≡◌, refl, sym, ◌∙◌, ap}
+use mathlib.Core.Path.{◌≡◌, sym, ◌∙◌}
 use mathlib.Core.List.{List, ◌++◌}
-use Prim.Native.Nat.{ℕ, suc, ◌+◌, ◌*◌, ◌/◌, ◌%◌, ◌≤◌, ◌<◌}
-use native.Mathlib.Nat.{div-add-mod', suc-mul}
+use Prim.Native.Nat.{ℕ, ◌+◌, ◌*◌, ◌/◌, ◌%◌, ◌≤◌, ◌<◌}
+use native.Mathlib.Decide.{dec_lt}
 use native.Mathlib.Omega.{arith}
-use lib.Arith.{digits_div, digits_mod}
+use lib.Arith.{digits_div, digits_mod, digits_lt}
 use lib.ListN.{length, get_or, drop, set, length-set}
 use lib.Seq.{get_or-set_same, get_or-set_other}
 use borrow.Author.Count.{below_more}
@@ -12,43 +12,41 @@ use Rattle.grid.specs.declared.Grid.{Grid}
 use Rattle.grid.specs.Sheet.{size}
 use Rattle.route_laws.specs.Receivers.{receiver_mark, receivers}
 use Rattle.route_laws.proofs.Front.{is_front}
-use Rattle.receivers.specs.Written.{WrittenTo}
+use Rattle.receivers.specs.Written.{RowWritten, WrittenTo}
 
--- ---- the next cell's row and column
-module _ (cols c : ℕ) (h : c % cols < cols) where
-  next_is : c / cols * cols + (c % cols + 1) ≡ c + 1
-  next_is = omega (arith, div-add-mod' c cols)
+-- ---- the cell in a row and a column
+pub in_row : (g : Grid) (row col : ℕ) → row < g.rows → col < g.cols →
+    (row * g.cols + col < size g) × (row ≡ (row * g.cols + col) / g.cols) × (col ≡ (row * g.cols + col) % g.cols)
+in_row g row col h l = (digits_lt h l, sym (digits_div row l), sym (digits_mod row l))
 
-  pub same_row : c % cols + 1 < cols → (c / cols ≡ (c + 1) / cols) × (c % cols + 1 ≡ (c + 1) % cols)
-  same_row l =
-      (sym (digits_div (c / cols) l) ∙ ap (λ (x : ℕ). x / cols) next_is, sym (digits_mod (c / cols) l) ∙ ap (λ (x : ℕ). x % cols) next_is)
+-- ---- one row more
+pub row_more : (g : Grid) (codes : List ℕ) (row k : ℕ) (t₀ t : List ℕ) (v : ℕ) → row * g.cols + k < length t₀ →
+    v ≡ receiver_mark g codes (row * g.cols + k) → RowWritten g codes row k t₀ t →
+    RowWritten g codes row (k + 1) t₀ (set t (row * g.cols + k) v)
+row_more g codes row k t₀ t v h e W =
+    let i = row * g.cols + k in
+    record {
+      same_length = length-set t i v ∙ W.same_length;
+      before = λ c l. get_or-set_other t i c v 0 (λ q. omega arith) ∙ W.before c l;
+      written =
+          λ c l m. below_more (λ d. row * g.cols ≤ d → get_or (set t i v) d 0 ≡ receiver_mark g codes d) i
+          (λ d b a. get_or-set_other t i d v 0 (λ q. omega arith) ∙ W.written d a b)
+          (λ a. get_or-set_same t i v 0 (let s = W.same_length in omega arith) ∙ e) c (omega arith) l;
+      after = λ c l. get_or-set_other t i c v 0 (λ q. omega arith) ∙ W.after c (omega arith);
+    }
 
-  pub next_row : cols ≤ c % cols + 1 → (c / cols + 1 ≡ (c + 1) / cols) × (0 ≡ (c + 1) % cols)
-  next_row l =
-      let e : suc (c / cols) * cols + 0 ≡ c + 1 = omega (arith, suc-mul (c / cols) cols, div-add-mod' c cols) in
-      let z : 0 < cols = omega arith in
-      let s : c / cols + 1 ≡ suc (c / cols) = omega arith in (
-        s ∙ sym (digits_div (suc (c / cols)) z) ∙ ap (λ (x : ℕ). x / cols) e,
-        sym (digits_mod (suc (c / cols)) z)
-            ∙ ap (λ (x : ℕ). x % cols) e,
-      )
-
--- ---- one place more
-module _ (g : Grid) (codes t₀ : List ℕ) where
-  pub written_none : WrittenTo g codes 0 t₀ t₀
-  written_none = record { same_length = refl; written = λ c h. let z : ⊥ = omega arith in absurd z; after = λ k h. refl }
-
-  pub written_more : (i v : ℕ) (t : List ℕ) → WrittenTo g codes i t₀ t → i < length t₀ → v ≡ receiver_mark g codes i →
-      WrittenTo g codes (i + 1) t₀ (set t i v)
-  written_more i v t W l e =
-      record {
-        same_length = length-set t i v ∙ W.same_length;
-        written =
-            below_more (λ c. get_or (set t i v) c 0 ≡ receiver_mark g codes c) i
-            (λ c h. get_or-set_other t i c v 0 (λ q. let z : ⊥ = omega arith in z) ∙ W.written c h)
-            (get_or-set_same t i v 0 (let s = W.same_length in omega arith) ∙ e);
-        after = λ k h. get_or-set_other t i k v 0 (λ q. let z : ⊥ = omega arith in z) ∙ W.after k (omega arith);
-      }
+pub written_more : (g : Grid) (codes : List ℕ) (row : ℕ) (t₀ t t' : List ℕ) → WrittenTo g codes (row * g.cols) t₀ t →
+    RowWritten g codes row g.cols t t' → WrittenTo g codes ((row + 1) * g.cols) t₀ t'
+written_more g codes row t₀ t t' W R =
+    record {
+      same_length = R.same_length ∙ W.same_length;
+      written = λ c h. go c h (dec_lt c (row * g.cols));
+      after = λ c h. R.after c (omega arith) ∙ W.after c (omega arith);
+    }
+  where
+    go : (c : ℕ) → c < (row + 1) * g.cols → Dec (c < row * g.cols) → get_or t' c 0 ≡ receiver_mark g codes c
+    go c h (yes l) = R.before c l ∙ W.written c l
+    go c h (no f) = R.written c (omega arith) (omega arith)
 
 -- ---- all places
 pub written_front : (g : Grid) (codes t₀ t : List ℕ) → size g ≤ length t₀ → WrittenTo g codes (size g) t₀ t →

@@ -29,3 +29,10 @@ pub record WrittenTo (g : Grid) (codes : List ℕ) (i : ℕ) (t₀ t : List ℕ)
   pub same_length : length t ≡ length t₀
   pub written : (c : ℕ) → c < i → get_or t c 0 ≡ receiver_mark g codes c
   pub after : (k : ℕ) → i ≤ k → get_or t k 0 ≡ get_or t₀ k 0
+
+-- the receivers of the first k cells of a row stand in their places, and every other place is as at entry
+pub record RowWritten (g : Grid) (codes : List ℕ) (row k : ℕ) (t₀ t : List ℕ) : Type 0 where
+  pub same_length : length t ≡ length t₀
+  pub before : (c : ℕ) → c < row * g.cols → get_or t c 0 ≡ get_or t₀ c 0
+  pub written : (c : ℕ) → row * g.cols ≤ c → c < row * g.cols + k → get_or t c 0 ≡ receiver_mark g codes c
+  pub after : (c : ℕ) → row * g.cols + k ≤ c → get_or t c 0 ≡ get_or t₀ c 0

@@ -9,7 +9,8 @@ ghost use Rattle.std.specs.Prelude.{◌≡◌, ◌++◌, ◌+◌, ◌*◌, ◌/�
 ghost use Rattle.grid.specs.Sheet.{size, position_of, neighbour};
 ghost use Rattle.grid.specs.Routes.{first_bad_code};
 ghost use Rattle.route_laws.specs.Receivers.{receiver_mark, receivers, AllCodes};
-ghost use Rattle.receivers.specs.Written.{bad_table, FirstBad, ReachTable, WrittenTo};
+ghost use Rattle.receivers.specs.Yes.{AllCodes-prop};
+ghost use Rattle.receivers.specs.Written.{bad_table, FirstBad, ReachTable, RowWritten, WrittenTo};
 
 use cells::Direction;
 use grid::Grid;
@@ -20,30 +21,24 @@ fn bad_table() -> [u8; 256]
 {
     let mut table = [1u8; 256];
     table[0] = 0;
-    table[Direction::NORTH_EAST as usize] = 0;
-    table[Direction::EAST as usize] = 0;
-    table[Direction::SOUTH_EAST as usize] = 0;
-    table[Direction::SOUTH as usize] = 0;
-    table[Direction::SOUTH_WEST as usize] = 0;
-    table[Direction::WEST as usize] = 0;
-    table[Direction::NORTH_WEST as usize] = 0;
-    table[Direction::NORTH as usize] = 0;
+    for p in 0..8 {
+        table[Direction::code(p) as usize] = 0;
+    }
     table
 }
 
 // The first byte that the table has, or their number.
+#[tactic(auto, using(crate::proofs::Codes::bad_yes, crate::proofs::Codes::bad_no))]
 fn first_in(table: &[u8; 256], codes: &[u8]) -> usize
     requires { table.now ≡ bad_table }
     ensures { FirstBad codes.now result }
 {
-    let mut c = 0;
-    while c < codes.len() {
-        if table[codes[c] as usize] == 1 {
+    for (c, code) in codes.iter().enumerate() {
+        if table[*code as usize] == 1 {
             return c;
         }
-        c += 1;
     }
-    c
+    codes.len()
 }
 
 // "11. Is each code 0 or one of the eight? Place: first cell."
@@ -62,15 +57,25 @@ fn reach_table(cols: usize) -> [usize; 256]
 {
     let offsets = cells::offsets(cols);
     let mut table = [0usize; 256];
-    let mut p: usize = 0;
-    while p < 8 {
+    for p in 0..8 {
         table[Direction::code(p) as usize] = offsets[p];
-        p += 1;
     }
     table
 }
 
+// A sheet of codes after a yes to question 11: of a size that the gate lets pass, and each of its bytes 0 or a code.
+#[derive(Clone, Copy)]
+pub struct CodeSheet<'a> {
+    pub grid: Grid,
+    pub codes: &'a [u8],
+    pub ghost size_bound: { size grid < 2 ^ 24 },
+    pub ghost rows_bound: { 1 ≤ grid.rows },
+    pub ghost codes_len: { length codes.now ≡ size grid },
+    pub ghost all_codes: { AllCodes codes.now } by { AllCodes-prop codes.now },
+}
+
 // The cell that a code points at from the cell in row `row` and column `col`, or rows * cols.
+#[tactic(auto, using(crate::proofs::Codes::reached))]
 fn pointed_at(g: Grid, table: &[usize; 256], cell: usize, row: usize, col: usize, code: u8) -> usize
     requires g_bound { size g < 2 ^ 24 }
     requires cell_bound { cell < size g }
@@ -88,90 +93,62 @@ fn pointed_at(g: Grid, table: &[usize; 256], cell: usize, row: usize, col: usize
 }
 
 // The mark of a cell.
-fn mark(g: Grid, table: &[usize; 256], codes: &[u8], cell: usize, row: usize, col: usize) -> usize
-    requires g_bound { size g < 2 ^ 24 }
-    requires codes_len { length codes.now ≡ size g }
-    requires all_codes { AllCodes codes.now }
-    requires cell_bound { cell < size g }
-    requires row_value { row ≡ cell / g.cols }
-    requires col_value { col ≡ cell % g.cols }
-    requires reach_table { ReachTable g.cols table.now }
-    ensures value { result ≡ receiver_mark g codes.now cell }
-    ensures upper_bound { result ≤ size g + 1 }
+fn mark(codes: &CodeSheet, table: &[usize; 256], cell: usize, row: usize, col: usize) -> usize
+    requires cell_bound { cell < size codes.now.grid }
+    requires row_value { row ≡ cell / codes.now.grid.cols }
+    requires col_value { col ≡ cell % codes.now.grid.cols }
+    requires reach_table { ReachTable codes.now.grid.cols table.now }
+    ensures value { result ≡ receiver_mark codes.now.grid codes.now.codes.now cell }
+    ensures upper_bound { result ≤ size codes.now.grid + 1 }
 {
-    let n = g.rows * g.cols;
-    let code = codes[cell];
+    let n = codes.grid.rows * codes.grid.cols;
+    let code = codes.codes[cell];
     if code == 0 {
         return n + 1;
     }
-    let next = pointed_at(g, table, cell, row, col, code);
+    let next = pointed_at(codes.grid, table, cell, row, col, code);
     if next >= n {
         return n;
     }
-    if codes[next] == 0 {
+    if codes.codes[next] == 0 {
         return n;
     }
     next
 }
 
-// The row of the cell after one that stands in row `row` and column `col`.
-fn row_after(cols: usize, cell: usize, row: usize, col: usize) -> usize
-    requires cell_bound { cell < 2 ^ 24 }
-    requires row_value { row ≡ cell / cols }
-    requires col_value { col ≡ cell % cols }
-    requires col_lt_cols { col < cols }
-    ensures { result ≡ (cell + 1) / cols }
+// The marks of a row.
+#[tactic(auto, using(crate::proofs::Written::in_row, crate::proofs::Written::row_more))]
+fn write_row(codes: &CodeSheet, table: &[usize; 256], row: usize, tail: &mut [u32])
+    requires reach_table { ReachTable codes.now.grid.cols table.now }
+    requires codes_in_bounds { size codes.now.grid ≤ length tail.old }
+    requires row_bound { row < codes.now.grid.rows }
+    ensures { RowWritten codes.now.grid codes.now.codes.now row codes.now.grid.cols tail.old tail.new }
 {
-    if col + 1 < cols {
-        return row;
+    let cols = codes.grid.cols;
+    for col in 0..cols {
+        let cell = row * cols + col;
+        tail[cell] = mark(codes, table, cell, row, col) as u32;
     }
-    row + 1
-}
-
-// Its column.
-fn col_after(cols: usize, cell: usize, col: usize) -> usize
-    requires cell_bound { cell < 2 ^ 24 }
-    requires col_value { col ≡ cell % cols }
-    requires col_lt_cols { col < cols }
-    ensures { result ≡ (cell + 1) % cols }
-{
-    if col + 1 < cols {
-        return col + 1;
-    }
-    0
 }
 
 // The marks of all cells.
-fn write_marks(g: Grid, table: &[usize; 256], codes: &[u8], tail: &mut [u32])
-    requires g_bound { size g < 2 ^ 24 }
-    requires codes_len { length codes.now ≡ size g }
-    requires all_codes { AllCodes codes.now }
-    requires reach_table { ReachTable g.cols table.now }
-    requires g_in_bounds { size g ≤ length tail.old }
-    ensures { WrittenTo g codes.now (size g) tail.old tail.new }
+#[tactic(auto, using(crate::proofs::Written::written_more))]
+fn write_marks(codes: &CodeSheet, table: &[usize; 256], tail: &mut [u32])
+    requires reach_table { ReachTable codes.now.grid.cols table.now }
+    requires codes_in_bounds { size codes.now.grid ≤ length tail.old }
+    ensures { WrittenTo codes.now.grid codes.now.codes.now (size codes.now.grid) tail.old tail.new }
 {
-    let cols = g.cols;
-    let n = g.rows * cols;
-    let mut cell = 0;
-    let mut row = 0;
-    let mut col = 0;
-    while cell < n {
-        tail[cell] = mark(g, table, codes, cell, row, col) as u32;
-        row = row_after(cols, cell, row, col);
-        col = col_after(cols, cell, col);
-        cell += 1;
+    for row in 0..codes.grid.rows {
+        write_row(codes, table, row, tail);
     }
 }
 
 // The list of receivers, at the front of the lent tail.
-pub fn receivers_from(g: Grid, codes: &[u8], tail: &mut [u32])
-    requires g_bound { size g < 2 ^ 24 }
-    requires le_rows { 1 ≤ g.rows }
-    requires codes_len { length codes.now ≡ size g }
-    requires all_codes { AllCodes codes.now }
-    requires g_in_bounds { size g ≤ length tail.old }
-    ensures { tail.new ≡ receivers g codes.now ++ drop (size g) tail.old }
+#[tactic(auto, using(crate::proofs::Written::written_front))]
+pub fn receivers_from(codes: &CodeSheet, tail: &mut [u32])
+    requires codes_in_bounds { size codes.now.grid ≤ length tail.old }
+    ensures { tail.new ≡ receivers codes.now.grid codes.now.codes.now ++ drop (size codes.now.grid) tail.old }
 {
-    let table = reach_table(g.cols);
-    write_marks(g, &table, codes, tail);
+    let table = reach_table(codes.grid.cols);
+    write_marks(codes, &table, tail);
 }

@@ -5,7 +5,7 @@ use mathlib.Core.Path.{◌≡◌, refl, sym, ◌∙◌, ap, ap₂, subst}
 use mathlib.Core.Bool.{Bool, true, false, not, cond, ◌&&◌, ◌||◌}
 use mathlib.Core.Logic.{◌⊎◌, inl, inr, ⊎_elim}
 use mathlib.Core.List.{List}
-use Prim.Native.Nat.{ℕ, zero, suc, ◌+◌, ◌-◌, ◌*◌, ◌%◌, ◌≤◌, ◌<◌}
+use Prim.Native.Nat.{ℕ, zero, suc, ◌+◌, ◌-◌, ◌*◌, ◌%◌, ◌≤◌, ◌<◌, min}
 use native.Mathlib.Nat.{mul-le-mul, mul-le-mul_right, le_of_mul-le-mul_right, mul-lt-mul_of_pos_right, mul-zero}
 use native.Mathlib.Decide.{dec_lt}
 use native.Mathlib.Omega.{arith}
@@ -14,32 +14,24 @@ use lib.ListN.{get_or}
 use borrow.Author.Tests.{ltb-true, ltb-false, lt-ltb, le-ltb, lt-leb, le-leb, eqb-true, eq-eqb}
 use Rattle.grid.specs.Below.{any_below, sum_below}
 use Rattle.grid.specs.Sheet.{code_at}
-use Rattle.grid_laws.proofs.Tests.{and_false_left, and_true, and_left, and_right, or_left, or_right, or_cases}
-use Rattle.grid_laws.proofs.Tests.{not_of_false, not_is_true, cond_true, cond_false, same_test}
+use Rattle.grid_laws.proofs.Tests.{and_true, and_left, and_right, or_left, or_right, or_cases}
+use Rattle.grid_laws.proofs.Tests.{not_of_false, not_is_true, same_test}
 use Rattle.grid_laws.proofs.Neighbours.{at_eight}
 use Rattle.grid_laws.proofs.Below.{any_of, some_of_any, no_of_any, none_of}
-use Rattle.slopes.specs.Steepest.{distance_of, square_at, unbeaten, steepest_in, any_void, lower_of, lowest_of, pair_of, members_of}
+use Rattle.slopes.specs.Steepest.{distance_of, square_at, unbeaten, steepest_in, any_void, lowest_of}
 use Rattle.slopes.specs.Steepest.{low_side, low_across, low_along, low_corner, side_codes, across_codes, along_codes, corner_codes}
 use Rattle.slopes.specs.Steepest.{leads_of, leads_both_of, larger_of, largest_of}
 
 -- ---- the lowest of four
-pub lower_first : (a b : ℕ) → b < a → b ≡ lower_of a b
-unfolding lower_of
-lower_first a b h = sym (cond_true b a (lt-ltb b a h))
-
-pub lower_second : (a b : ℕ) → a ≤ b → a ≡ lower_of a b
-unfolding lower_of
-lower_second a b h = sym (cond_false b a (le-ltb b a h))
-
 abbrev Lower : ℕ → ℕ → ℕ → Type 0
 Lower m a b = (m ≤ a) × (m ≤ b) × ((m ≡ a) ⊎ (m ≡ b))
 
-lower_is : (a b : ℕ) → Lower (lower_of a b) a b
+lower_is : (a b : ℕ) → Lower (min a b) a b
 lower_is a b = go (dec_lt b a)
   where
-    go : Dec (b < a) → Lower (lower_of a b) a b
-    go (yes h) = let q = lower_first a b h in (omega arith, omega arith, inr (sym q))
-    go (no h) = let q = lower_second a b (omega arith) in (omega arith, omega arith, inl (sym q))
+    go : Dec (b < a) → Lower (min a b) a b
+    go (yes h) = (omega arith, omega arith, inr (omega arith))
+    go (no h) = (omega arith, omega arith, inl (omega arith))
 
 -- at most each, and one of them
 pub record Lowest (m a b c d : ℕ) : Type 0 where
@@ -53,7 +45,7 @@ pub lowest_is : (a b c d : ℕ) → Lowest (lowest_of a b c d) a b c d
 lowest_is a b c d =
     let x = lower_is a b in
     let y = lower_is c d in
-    let z = lower_is (lower_of a b) (lower_of c d) in
+    let z = lower_is (min a b) (min c d) in
     let x0 = x.0 in
     let x1 = x.1 in
     let y0 = y.0 in
@@ -173,16 +165,6 @@ times : (t : Bool) (m n : ℕ) → cond t (m * n) 0 ≡ m * cond t n 0
 times true m n = refl
 times false m n = sym (mul-zero m)
 
-pub bit : (t : Bool) (n : ℕ) → cond t n 0 ≤ n
-bit true n = omega arith
-bit false n = omega arith
-
-pub pair_small : (low a b : ℕ) → pair_of low a b ≤ 17
-pair_small low a b = omega (arith, bit (eqb a low) 1, bit (eqb b low) 16)
-
-pub members_small : (low a b c d : ℕ) → members_of low a b c d ≤ 85
-members_small low a b c d = omega (arith, bit (eqb a low) 1, bit (eqb b low) 4, bit (eqb c low) 16, bit (eqb d low) 64)
-
 -- the codes of each class by themselves
 side_sum : (s t u v w : Bool) → cond (s && t) 2 0 + cond (s && u) 8 0 + cond (s && v) 32 0 + cond (s && w) 128 0
     ≡ cond s (2 * (cond t 1 0 + cond u 4 0 + cond v 16 0 + cond w 64 0)) 0
@@ -225,12 +207,6 @@ neither : (d s t : Bool) → (d && not (s || t)) ≡ ((d && not s) && not t)
 neither true true t = refl
 neither true false t = refl
 neither false s t = refl
-
-pub leads_yes : (d x y : ℕ) → 0 < d → leb y x ≡ leads_of d x y
-leads_yes d x y h = sym (ap (λ (t : Bool). t && leb y x) (lt-ltb 0 d h))
-
-pub leads_no : (d x y : ℕ) → d ≤ 0 → ltb 0 d ≡ leads_of d x y
-leads_no d x y h = let z = le-ltb 0 d h in z ∙ sym (and_false_left (leb y x) z)
 
 pub larger_is : (a sides b corners : ℕ) {ab ba : ℕ} {s c : Bool} → ab ≡ a * a * 2 → ba ≡ b * b * 1 → s ≡ leads_of a ab ba →
     c ≡ leads_of b ba ab → cond s sides 0 + cond c corners 0 ≡ larger_of a sides b corners
@@ -344,14 +320,14 @@ module _ (own : ℕ) (l : List ℕ) where
       omega (arith, sum_of_eight code2, cs, ss, c0, s1, c2, s3, c4, s5, c6, s7)
 
   -- a void is among the nine exactly where the lowest of them is 0
-  pub low_void : (x : ℕ) → x ≡ lower_of (lower_of (low_corner l) (low_side l)) own → eqb x 0 ≡ any_void own l
+  pub low_void : (x : ℕ) → x ≡ min (min (low_corner l) (low_side l)) own → eqb x 0 ≡ any_void own l
   unfolding any_void
   low_void x e = same_test (eqb x 0) (any_void own l) there back
     where
-      outer : Lower (lower_of (lower_of (low_corner l) (low_side l)) own) (lower_of (low_corner l) (low_side l)) own
-      outer = lower_is (lower_of (low_corner l) (low_side l)) own
+      outer : Lower (min (min (low_corner l) (low_side l)) own) (min (low_corner l) (low_side l)) own
+      outer = lower_is (min (low_corner l) (low_side l)) own
 
-      inner : Lower (lower_of (low_corner l) (low_side l)) (low_corner l) (low_side l)
+      inner : Lower (min (low_corner l) (low_side l)) (low_corner l) (low_side l)
       inner = lower_is (low_corner l) (low_side l)
 
       around : (j : ℕ) → j < 2 → low2 j ≡ 0 → any_below 8 (λ q. eqb (k q) 0) ≡ true
@@ -366,9 +342,9 @@ module _ (own : ℕ) (l : List ℕ) where
           inner.2))
           (λ q. or_left (any_below 8 (λ q. eqb (k q) 0)) (eq-eqb own 0 (sym q ∙ sym e ∙ z))) outer.2
 
-      under : (q : ℕ) → q < 8 → lower_of (low_corner l) (low_side l) ≤ k q
+      under : (q : ℕ) → q < 8 → min (low_corner l) (low_side l) ≤ k q
       under =
-          at_eight (λ q. lower_of (low_corner l) (low_side l) ≤ k q) (omega (arith, inner.0, corner_low.first))
+          at_eight (λ q. min (low_corner l) (low_side l) ≤ k q) (omega (arith, inner.0, corner_low.first))
           (omega (arith, inner.1, side_low.first)) (omega (arith, inner.0, corner_low.second))
           (omega (arith, inner.1, side_low.second)) (omega (arith, inner.0, corner_low.third))
           (omega (arith, inner.1, side_low.third)) (omega (arith, inner.0, corner_low.fourth))
@@ -391,8 +367,8 @@ module _ (own : ℕ) (l : List ℕ) where
       sides ≡ side_codes l side → corners ≡ corner_codes l corner → r ≡ larger_of a sides b corners → r ≡ steepest_in 1 1 own l
   square_by e1 e2 ea eb es ec er = er ∙ rw (ea, eb, es, ec, e1, e2) larger_all
 
-  pub void_by : {corner side low x r : ℕ} (sum : ℕ) → corner ≡ low_corner l → side ≡ low_side l → low ≡ lower_of corner side →
-      x ≡ lower_of low own → r ≡ cond (eqb x 0) 256 sum → r ≡ cond (any_void own l) 256 sum
+  pub void_by : {corner side low x r : ℕ} (sum : ℕ) → corner ≡ low_corner l → side ≡ low_side l → low ≡ min corner side →
+      x ≡ min low own → r ≡ cond (eqb x 0) 256 sum → r ≡ cond (any_void own l) 256 sum
   void_by {x = x} sum ec es el ex er = er ∙ ap (λ (t : Bool). cond t 256 sum) (low_void x (ex ∙ rw (el, ec, es) refl))
 
   -- ---- cells of any shape: corners, east and west, north and south

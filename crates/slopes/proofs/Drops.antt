@@ -1,22 +1,20 @@
 -- Drops as differences of keys: the definitions over the keys around a cell.
-use mathlib.Core.Path.{◌≡◌, refl, sym, ◌∙◌, ap, ap₂, subst}
+use mathlib.Core.Path.{◌≡◌, refl, sym, ◌∙◌, ap, ap₂}
 use mathlib.Core.Bool.{Bool, true, false, not, cond, ◌&&◌, ◌||◌}
 use mathlib.Core.Logic.{⊎_elim}
 use mathlib.Core.List.{List}
-use Prim.Native.Nat.{ℕ, suc, ◌+◌, ◌-◌, ◌*◌, ◌≤◌, ◌<◌}
+use Prim.Native.Nat.{ℕ, suc, ◌-◌, ◌*◌, ◌≤◌, ◌<◌}
 use native.Mathlib.Nat.{zero-mul}
 use native.Mathlib.Decide.{ℕ_discrete, dec_lt}
 use native.Mathlib.Omega.{arith}
 use lib.Dec.{eqb, ltb}
-use lib.ListN.{length, get_or, set, length-set}
-use lib.Seq.{get_or-set_same, get_or-set_other}
+use lib.ListN.{length, get_or}
 use lib.IntN.{ℤ, pos, negsuc}
 use lib.Signed.{lt_z, ◌≤ℤ◌}
-use borrow.Author.Count.{below_more}
 use borrow.Author.Tests.{ltb-true, lt-ltb, le-ltb, eq-eqb, ne_eqb, eqb-false}
 use Rattle.grid.specs.declared.Grid.{Grid}
 use Rattle.grid.specs.Below.{table, any_below}
-use Rattle.grid.specs.Sheet.{void, at, is_data, neighbour, cell_at, code_at, IsElevation}
+use Rattle.grid.specs.Sheet.{void, at, is_data, neighbour, cell_at, code_at}
 use Rattle.grid.specs.Directions.{drop_to, squared_distance, beats, beaten, is_steepest, steepest_sum}
 use Rattle.grid.specs.Shapes.{reshaped}
 use Rattle.grid_laws.proofs.Tests.{test, and_false_left, cond_true, cond_false, or_none_right}
@@ -24,7 +22,7 @@ use Rattle.grid_laws.proofs.Below.{any_ext, no_of_any, sum_ext, is_table, at_tab
 use Rattle.shape_laws.proofs.Squares.{square_sum}
 use Rattle.cells.specs.Keys.{key_of}
 use Rattle.cells.specs.Around.{KnownTo}
-use Rattle.cells.proofs.Keys.{Known, data_by_key, no_data_key, zero_no_data, key_falls, key_drop, key_difference}
+use Rattle.cells.proofs.Keys.{data_by_key, no_data_key, zero_no_data, key_falls, key_drop, key_difference}
 use Rattle.slopes.specs.Steepest.{keys_of, key_or, edge_keys, distance_of, square_at, unbeaten, steepest_in, any_void, marked_in}
 use Rattle.slopes.specs.Steepest.{near_void, inner_sum}
 
@@ -41,48 +39,25 @@ up_loses g a b q p = refl
 nothing_over : (a d x : ℕ) → a ≡ 0 → ltb x (a * a * d) ≡ false
 nothing_over a d x e = le-ltb x (a * a * d) (rw e (rw (zero-mul d) (omega arith)))
 
--- ---- the keys around a cell, gathered position by position; `seen` is what is gathered of a key
+-- ---- the keys around a cell, gathered before position p; `seen` is what is gathered of a key
 pub record Gathered (g : Grid) (e : List ℤ) (c : ℕ) (seen : ℕ → ℕ) (l : List ℕ) (p : ℕ) : Type 0 where
-  pub within : p ≤ 8
   pub eight : length l ≡ 8
   pub keys : (q : ℕ) → q < p → get_or l q 0 ≡ seen (key_of (at e (neighbour g c q)))
   pub known : KnownTo g e c p
 
-pub gathered_none : (g : Grid) (e : List ℤ) (c : ℕ) (seen : ℕ → ℕ) (l : List ℕ) → length l ≡ 8 → Gathered g e c seen l 0
-gathered_none g e c seen l h =
-    record {
-      within = omega arith;
-      eight = h;
-      keys = λ q b. let z : ⊥ = omega arith in absurd z;
-      known = λ q b. let z : ⊥ = omega arith in absurd z;
-    }
+gathered_all : (g : Grid) (e : List ℤ) (c : ℕ) (seen : ℕ → ℕ) (l : List ℕ) (p : ℕ) → Gathered g e c seen l p → 8 ≤ p →
+    l ≡ table 8 (λ q. seen (key_of (at e (neighbour g c q))))
+gathered_all g e c seen l p G h =
+    is_table 8 (λ q. seen (key_of (at e (neighbour g c q)))) l 0 G.eight (λ q b. G.keys q (omega arith))
 
--- m is the neighbour at p, k its key, and r what is gathered
-pub gathered_more : (g : Grid) (e : List ℤ) (c : ℕ) (seen : ℕ → ℕ) (l : List ℕ) (p m k r : ℕ) → p < 8 → Gathered g e c seen l p →
-    m ≡ neighbour g c p → Known k (at e m) → r ≡ seen k → Gathered g e c seen (set l p r) (p + 1)
-gathered_more g e c seen l p m k r h G em K er =
-    record {
-      within = omega arith;
-      eight = length-set l p r ∙ G.eight;
-      keys =
-          below_more (λ q. get_or (set l p r) q 0 ≡ seen (key_of (at e (neighbour g c q)))) p
-          (λ q b. get_or-set_other l p q r 0 (λ e. let z : ⊥ = omega arith in absurd z) ∙ G.keys q b)
-          (get_or-set_same l p r 0 (rw G.eight h) ∙ er ∙ ap seen (K.0 ∙ ap (λ (x : ℕ). key_of (at e x)) em));
-      known = below_more (λ q. IsElevation (at e (neighbour g c q))) p G.known
-          (subst (λ (x : ℕ). IsElevation (at e x)) em K.1.1);
-    }
-
-pub gathered_all : (g : Grid) (e : List ℤ) (c : ℕ) (seen : ℕ → ℕ) (l : List ℕ) → Gathered g e c seen l 8 →
-    l ≡ table 8 (λ p. seen (key_of (at e (neighbour g c p))))
-gathered_all g e c seen l G = is_table 8 (λ p. seen (key_of (at e (neighbour g c p)))) l 0 G.eight G.keys
-
-pub keys_all : (g : Grid) (e : List ℤ) (c : ℕ) (l : List ℕ) → Gathered g e c (λ k. k) l 8 → l ≡ keys_of g e c
+pub keys_all : (g : Grid) (e : List ℤ) (c : ℕ) (l : List ℕ) (p : ℕ) → Gathered g e c (λ k. k) l p → 8 ≤ p → l ≡ keys_of g e c
 unfolding keys_of
-keys_all g e c l G = gathered_all g e c (λ k. k) l G
+keys_all g e c l p G h = gathered_all g e c (λ k. k) l p G h
 
-pub edge_all : (g : Grid) (e : List ℤ) (c : ℕ) (l : List ℕ) → Gathered g e c (key_or (key_of (at e c))) l 8 → l ≡ edge_keys g e c
+pub edge_all : (g : Grid) (e : List ℤ) (c : ℕ) (l : List ℕ) (p : ℕ) → Gathered g e c (key_or (key_of (at e c))) l p → 8 ≤ p →
+    l ≡ edge_keys g e c
 unfolding edge_keys
-edge_all g e c l G = gathered_all g e c (key_or (key_of (at e c))) l G
+edge_all g e c l p G h = gathered_all g e c (key_or (key_of (at e c))) l p G h
 
 -- a neighbour's key, or the own
 pub key_or_void : (own k : ℕ) → k ≡ 0 → key_or own k ≡ own

@@ -1,8 +1,6 @@
--- Products squares and products
+-- Products the squares of a cell's width and height
 -- Classes  the largest drop by classes of equally far positions
 -- Drops    drops as differences of keys
--- Rows     a row of sums
 pub mod Drops
-pub mod Rows
 pub mod Products
 pub mod Classes

@@ -1,5 +1,5 @@
 -- The codes of the largest weighted drop from the keys around a cell.
-use Rattle.std.specs.Prelude.{◌≡◌, Bool, not, cond, ◌&&◌, ◌||◌, List, ℕ, ◌+◌, ◌-◌, ◌*◌, ◌%◌, ◌≤◌, ◌<◌, eqb, ltb, leb, get_or, ℤ}
+use Rattle.std.specs.Prelude.{◌≡◌, Bool, not, cond, ◌&&◌, ◌||◌, List, ℕ, ◌+◌, ◌-◌, ◌*◌, ◌%◌, ◌≤◌, ◌<◌, min, eqb, ltb, leb, get_or, ℤ}
 use Rattle.grid.specs.declared.Grid.{Grid}
 use Rattle.grid.specs.Below.{table, any_below, sum_below}
 use Rattle.grid.specs.Sheet.{size, at, is_data, neighbour, code_at}
@@ -55,11 +55,8 @@ pub record SumsTo (g : Grid) (e : List ℤ) (from to : ℕ) (work₀ work : List
   pub beyond : (i : ℕ) → size g ≤ i → get_or work i 0 ≡ get_or work₀ i 0
 
 -- ---- worked out by classes of equally far positions: a class's lowest key has its largest drop
-unfoldable pub lower_of : ℕ → ℕ → ℕ
-lower_of a b = cond (ltb b a) b a
-
 abbrev pub lowest_of : ℕ → ℕ → ℕ → ℕ → ℕ
-lowest_of a b c d = lower_of (lower_of a b) (lower_of c d)
+lowest_of a b c d = min (min a b) (min c d)
 
 -- which of two and of four keys are low, as codes of corners
 abbrev pub pair_of : (low a b : ℕ) → ℕ
@@ -73,10 +70,10 @@ abbrev pub low_side : List ℕ → ℕ
 low_side l = lowest_of (get_or l 1 0) (get_or l 3 0) (get_or l 5 0) (get_or l 7 0)
 
 abbrev pub low_across : List ℕ → ℕ
-low_across l = lower_of (get_or l 1 0) (get_or l 5 0)
+low_across l = min (get_or l 1 0) (get_or l 5 0)
 
 abbrev pub low_along : List ℕ → ℕ
-low_along l = lower_of (get_or l 3 0) (get_or l 7 0)
+low_along l = min (get_or l 3 0) (get_or l 7 0)
 
 abbrev pub low_corner : List ℕ → ℕ
 low_corner l = lowest_of (get_or l 0 0) (get_or l 2 0) (get_or l 4 0) (get_or l 6 0)

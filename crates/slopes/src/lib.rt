@@ -4,19 +4,17 @@
 // equally far, have rows of their own, with one comparison and the distances of 1 by 1.
 #![tactic(auto)]
 
-ghost use Rattle.std.specs.Prelude.{◌≡◌, cond, ℕ, ◌+◌, ◌-◌, ◌*◌, ◌/◌, ◌%◌, ◌<◌, ◌≤◌, ◌^◌, length};
+ghost use Rattle.std.specs.Prelude.{◌≡◌, true, cond, ℕ, ◌+◌, ◌-◌, ◌*◌, ◌/◌, ◌%◌, ◌<◌, ◌≤◌, ◌^◌, length};
 ghost use Rattle.grid.specs.Sheet.{size, at};
 ghost use Rattle.grid.specs.Directions.{steepest_sum};
 ghost use Rattle.cells.specs.Around.{KnownTo};
 ghost use Rattle.cells.specs.Keys.{key_of};
-ghost use Rattle.cells.specs.Steps.{Inner, Offsets};
-ghost use Rattle.shape_laws.specs.Shaped.{Shaped};
+ghost use Rattle.cells.specs.Steps.{Inner};
 ghost use Rattle.slopes.specs.Steepest.{keys_of, key_or, edge_keys, steepest_in, any_void, inner_sum, SumsTo};
-ghost use Rattle.slopes.specs.Steepest.{lower_of, lowest_of, pair_of, members_of, low_side, low_across, low_along, low_corner};
+ghost use Rattle.slopes.specs.Steepest.{lowest_of, pair_of, members_of, low_side, low_across, low_along, low_corner};
 ghost use Rattle.slopes.specs.Steepest.{side_codes, across_codes, along_codes, corner_codes, leads_of, leads_both_of, larger_of, largest_of};
 
-use cells::Direction;
-use grid::Grid;
+use cells::{Direction, Terrain};
 
 // The square of a drop times a squared distance: below 2 ^ 53. 32 bits would not hold twice the square of 65,534.
 fn weight(drop: u16, distance: u32) -> u64
@@ -33,25 +31,11 @@ fn pick(test: bool, yes: u16, no: u16) -> u16
     if test { yes } else { no }
 }
 
-// The lower of two keys.
-fn lower(a: u16, b: u16) -> u16
-    ensures { result ≡ lower_of a b }
-{
-    if b < a { b } else { a }
-}
-
 // The lowest of four keys.
 fn lowest(a: u16, b: u16, c: u16, d: u16) -> u16
     ensures { result ≡ lowest_of a b c d }
 {
-    lower(lower(a, b), lower(c, d))
-}
-
-// The drop to a neighbour, 0 where it is no lower.
-fn fall(own: u16, key: u16) -> u16
-    ensures { result ≡ own - key }
-{
-    if key < own { own - key } else { 0 }
+    a.min(b).min(c.min(d))
 }
 
 // Which of four keys are `low`, as a sum of the codes of the corners; the code of a side is twice that of the corner before it.
@@ -91,6 +75,7 @@ fn leads_both(drop: u16, own: u64, other: u64, again: u64, third: u64) -> bool
 
 // For square cells, of the codes of the lowest sides, with a drop `a`, and those of the lowest corners, with a drop `b`: those of the
 // larger drop. At 1 and √2 they tie at 0 only.
+#[tactic(auto, using(crate::proofs::Classes::larger_is))]
 fn larger(a: u16, sides: u16, b: u16, corners: u16) -> u16
     requires { (sides ≤ 170) × (corners ≤ 85) }
     ensures { result ≡ larger_of a sides b corners }
@@ -103,6 +88,7 @@ fn larger(a: u16, sides: u16, b: u16, corners: u16) -> u16
 // For the squared distances `w` to east and west, `h` to north and south, and `d` to corners, of the codes of the lower of east and west,
 // with a drop `a`, of north and south, with a drop `b`, and of the lowest corners, with a drop `c`: those of the largest drop, of two or
 // of all three where they tie.
+#[tactic(auto, using(crate::proofs::Classes::largest_is))]
 fn largest(
     w: u32,
     h: u32,
@@ -139,13 +125,13 @@ fn low_side(keys: &[u16; 8]) -> u16
 fn low_across(keys: &[u16; 8]) -> u16
     ensures { result ≡ low_across keys.now }
 {
-    lower(keys[1], keys[5])
+    keys[1].min(keys[5])
 }
 
 fn low_along(keys: &[u16; 8]) -> u16
     ensures { result ≡ low_along keys.now }
 {
-    lower(keys[3], keys[7])
+    keys[3].min(keys[7])
 }
 
 fn low_corner(keys: &[u16; 8]) -> u16
@@ -184,6 +170,7 @@ fn corner_codes(keys: &[u16; 8], low: u16) -> u16
 }
 
 // From a cell's key and the keys around it, the sum of the codes of the largest weighted drop; 0 where none is above 0. For square cells:
+#[tactic(auto, using(crate::proofs::Classes::square_by))]
 fn steepest_square(own: u16, keys: &[u16; 8]) -> u16
     ensures { result ≡ steepest_in 1 1 own keys.now }
 {
@@ -191,10 +178,16 @@ fn steepest_square(own: u16, keys: &[u16; 8]) -> u16
     let corner = low_corner(keys);
     let sides = side_codes(keys, side);
     let corners = corner_codes(keys, corner);
-    larger(fall(own, side), sides, fall(own, corner), corners)
+    larger(
+        own.saturating_sub(side),
+        sides,
+        own.saturating_sub(corner),
+        corners,
+    )
 }
 
 // And for cells of any shape: "the square root of the sum of their squares for corners".
+#[tactic(auto, using(crate::proofs::Classes::oblong_by, crate::proofs::Products::side_small, crate::proofs::Products::side_above))]
 fn steepest_oblong(width: u32, height: u32, own: u16, keys: &[u16; 8]) -> u16
     requires le_width { (1 ≤ width) × (width ≤ 1000) }
     requires le_height { (1 ≤ height) × (height ≤ 1000) }
@@ -212,188 +205,119 @@ fn steepest_oblong(width: u32, height: u32, own: u16, keys: &[u16; 8]) -> u16
         w,
         h,
         w + h,
-        fall(own, x),
+        own.saturating_sub(x),
         across,
-        fall(own, y),
+        own.saturating_sub(y),
         along,
-        fall(own, z),
+        own.saturating_sub(z),
         corners,
     )
 }
 
 // The sum, or 256 where the cell or one around it is void: no drop decides there.
+#[tactic(auto, using(crate::proofs::Classes::void_by))]
 fn unless_void(own: u16, keys: &[u16; 8], sum: u16) -> u16
     ensures { result ≡ cond (any_void own keys.now) 256 sum }
 {
-    let low = lower(lower(low_corner(keys), low_side(keys)), own);
+    let low = low_corner(keys).min(low_side(keys)).min(own);
     pick(low == 0, 256, sum)
 }
 
 // The keys around a cell within the border.
-fn keys_of(g: Grid, offsets: &[usize; 8], elevations: &[i16], cell: usize) -> [u16; 8]
-    requires elevations_len { length elevations.now ≡ size g }
-    requires g_bound { size g < 2 ^ 24 }
-    requires cell_bound { cell < size g }
-    requires inner { Inner g (cell / g.cols) (cell % g.cols) }
-    requires offsets { Offsets g.cols offsets.now }
-    ensures value { result ≡ keys_of g elevations.now cell }
-    ensures known_to { KnownTo g elevations.now cell 8 }
+#[tactic(auto, using(crate::proofs::Drops::keys_all))]
+fn keys_of(t: &Terrain, cell: usize) -> [u16; 8]
+    requires { Inner t.now.raster.grid (cell / t.now.raster.grid.cols) (cell % t.now.raster.grid.cols) }
+    ensures value { result ≡ keys_of t.now.raster.grid t.now.elevations.now cell }
+    ensures known_to { KnownTo t.now.raster.grid t.now.elevations.now cell 8 }
 {
     let mut keys = [0u16; 8];
-    let mut p: usize = 0;
-    while p < 8 {
-        keys[p] = cells::short_key(elevations[cells::beside(g, offsets, cell, p)]);
-        p += 1;
+    for p in 0..8 {
+        keys[p] = cells::key(t.elevations[t.raster.beside(cell, p)]);
     }
     keys
 }
 
 // For a cell within the border: "If the largest weighted drop is above 0, add the codes of all neighbours that have it", 0 where it is
-// not; 256 near a void, where the rule of outlets is asked for. For square cells:
-fn square_sum(g: Grid, offsets: &[usize; 8], elevations: &[i16], cell: usize) -> u16
-    requires elevations_len { length elevations.now ≡ size g }
-    requires g_bound { size g < 2 ^ 24 }
-    requires cell_bound { cell < size g }
-    requires inner { Inner g (cell / g.cols) (cell % g.cols) }
-    requires offsets { Offsets g.cols offsets.now }
-    requires width_value { g.width ≡ g.height }
-    requires shaped { Shaped g }
-    ensures { result ≡ inner_sum g elevations.now cell }
+// not; 256 near a void, where the rule of outlets is asked for. Square cells, SQUARE, go by the distances of 1 by 1.
+fn sum<const SQUARE: bool>(t: &Terrain, cell: usize) -> u16
+    requires cell_bound { cell < size t.now.raster.grid }
+    requires inner { Inner t.now.raster.grid (cell / t.now.raster.grid.cols) (cell % t.now.raster.grid.cols) }
+    requires width_value { SQUARE ≡ true → t.now.raster.grid.width ≡ t.now.raster.grid.height }
+    ensures { result ≡ inner_sum t.now.raster.grid t.now.elevations.now cell }
 {
-    let keys = keys_of(g, offsets, elevations, cell);
-    let own = cells::short_key_at(elevations, cell);
-    let sum = steepest_square(own, &keys);
+    let g = t.raster.grid;
+    let keys = keys_of(t, cell);
+    let own = cells::short_key_at(t.elevations, cell);
+    let sum = if SQUARE {
+        steepest_square(own, &keys)
+    } else {
+        steepest_oblong(g.width as u32, g.height as u32, own, &keys)
+    };
     unless_void(own, &keys, sum)
 }
 
-// And for cells of any shape.
-fn oblong_sum(g: Grid, offsets: &[usize; 8], elevations: &[i16], cell: usize) -> u16
-    requires elevations_len { length elevations.now ≡ size g }
-    requires g_bound { size g < 2 ^ 24 }
-    requires cell_bound { cell < size g }
-    requires inner { Inner g (cell / g.cols) (cell % g.cols) }
-    requires offsets { Offsets g.cols offsets.now }
-    requires shaped { Shaped g }
-    ensures { result ≡ inner_sum g elevations.now cell }
-{
-    let keys = keys_of(g, offsets, elevations, cell);
-    let own = cells::short_key_at(elevations, cell);
-    let sum = steepest_oblong(g.width as u32, g.height as u32, own, &keys);
-    unless_void(own, &keys, sum)
-}
-
-// The sums of the cells from `from` to `to`, a part of one row within the border. For square cells:
-fn square_sums(
-    g: Grid,
-    offsets: &[usize; 8],
-    elevations: &[i16],
-    from: usize,
-    to: usize,
-    work: &mut [u32],
-)
-    requires elevations_len { length elevations.now ≡ size g }
-    requires g_bound { size g < 2 ^ 24 }
-    requires to_bound { to ≤ size g }
+// The sums of the cells from `from` to `to`, a part of one row within the border.
+fn sums<const SQUARE: bool>(t: &Terrain, from: usize, to: usize, work: &mut [u32])
+    requires to_bound { to ≤ size t.now.raster.grid }
     requires to_in_bounds { to ≤ length work.old }
-    requires by_index { (c : ℕ) → from ≤ c → c < to → Inner g (c / g.cols) (c % g.cols) }
-    requires offsets { Offsets g.cols offsets.now }
-    requires width_value { g.width ≡ g.height }
-    requires shaped { Shaped g }
-    ensures { SumsTo g elevations.now from to work.old work.new }
+    requires by_index { (c : ℕ) → from ≤ c → c < to →
+        Inner t.now.raster.grid (c / t.now.raster.grid.cols) (c % t.now.raster.grid.cols) }
+    requires width_value { SQUARE ≡ true → t.now.raster.grid.width ≡ t.now.raster.grid.height }
+    ensures { SumsTo t.now.raster.grid t.now.elevations.now from to work.old work.new }
 {
-    let mut cell = from;
-    while cell < to {
-        work[cell] = square_sum(g, offsets, elevations, cell) as u32;
-        cell += 1;
-    }
-}
-
-// And for cells of any shape.
-fn oblong_sums(
-    g: Grid,
-    offsets: &[usize; 8],
-    elevations: &[i16],
-    from: usize,
-    to: usize,
-    work: &mut [u32],
-)
-    requires elevations_len { length elevations.now ≡ size g }
-    requires g_bound { size g < 2 ^ 24 }
-    requires to_bound { to ≤ size g }
-    requires to_in_bounds { to ≤ length work.old }
-    requires by_index { (c : ℕ) → from ≤ c → c < to → Inner g (c / g.cols) (c % g.cols) }
-    requires offsets { Offsets g.cols offsets.now }
-    requires shaped { Shaped g }
-    ensures { SumsTo g elevations.now from to work.old work.new }
-{
-    let mut cell = from;
-    while cell < to {
-        work[cell] = oblong_sum(g, offsets, elevations, cell) as u32;
-        cell += 1;
+    let t = *t; // its own copy, so that a store into `work` makes nothing be read again
+    for cell in from..to {
+        work[cell] = sum::<SQUARE>(&t, cell) as u32;
     }
 }
 
 // The same for the shape at hand: "Square cells give the old codes at any width", so that of theirs the width does not matter.
-pub fn row_sums(
-    g: Grid,
-    offsets: &[usize; 8],
-    elevations: &[i16],
-    from: usize,
-    to: usize,
-    work: &mut [u32],
-)
-    requires elevations_len { length elevations.now ≡ size g }
-    requires g_bound { size g < 2 ^ 24 }
-    requires to_bound { to ≤ size g }
+pub fn row_sums(t: &Terrain, from: usize, to: usize, work: &mut [u32])
+    requires to_bound { to ≤ size t.now.raster.grid }
     requires to_in_bounds { to ≤ length work.old }
-    requires by_index { (c : ℕ) → from ≤ c → c < to → Inner g (c / g.cols) (c % g.cols) }
-    requires offsets { Offsets g.cols offsets.now }
-    requires shaped { Shaped g }
-    ensures { SumsTo g elevations.now from to work.old work.new }
+    requires by_index { (c : ℕ) → from ≤ c → c < to →
+        Inner t.now.raster.grid (c / t.now.raster.grid.cols) (c % t.now.raster.grid.cols) }
+    ensures { SumsTo t.now.raster.grid t.now.elevations.now from to work.old work.new }
 {
-    if g.width == g.height {
-        square_sums(g, offsets, elevations, from, to, work);
-        return;
+    if t.raster.grid.width == t.raster.grid.height {
+        sums::<true>(t, from, to, work);
+    } else {
+        sums::<false>(t, from, to, work);
     }
-    oblong_sums(g, offsets, elevations, from, to, work);
 }
 
 // A neighbour's key, or the cell's own where there is no data cell.
-fn key_or(own: u16, key: u32) -> u16
-    requires { key < 65536 }
+#[tactic(auto, unfolding(crate::specs::Steepest::key_or))]
+fn key_or(own: u16, key: u16) -> u16
     ensures { result ≡ key_or own key }
 {
-    if key == 0 {
-        return own;
-    }
-    key as u16
+    if key == 0 { own } else { key }
 }
 
 // The keys around any cell, its own where there is no data cell; `own` is its key.
-fn edge_keys(g: Grid, elevations: &[i16], cell: usize, own: u16) -> [u16; 8]
-    requires g_bound { size g < 2 ^ 24 }
-    requires cell_bound { cell < size g }
-    requires own_value { own ≡ key_of (at elevations.now cell) }
-    ensures value { result ≡ edge_keys g elevations.now cell }
-    ensures known_to { KnownTo g elevations.now cell 8 }
+#[tactic(auto, using(crate::proofs::Drops::edge_all))]
+fn edge_keys(t: &Terrain, cell: usize, own: u16) -> [u16; 8]
+    requires cell_bound { cell < size t.now.raster.grid }
+    requires own_value { own ≡ key_of (at t.now.elevations.now cell) }
+    ensures value { result ≡ edge_keys t.now.raster.grid t.now.elevations.now cell }
+    ensures known_to { KnownTo t.now.raster.grid t.now.elevations.now cell 8 }
 {
     let mut keys = [0u16; 8];
-    let mut p: usize = 0;
-    while p < 8 {
-        keys[p] = key_or(own, cells::key_at(elevations, cells::neighbour(g, cell, p)));
-        p += 1;
+    for p in 0..8 {
+        let m = cells::neighbour(t.raster.grid, cell, p);
+        keys[p] = key_or(own, cells::key_at(t.elevations, m));
     }
     keys
 }
 
 // For any cell, as on a closed side: the sum of the codes of the largest weighted drop, 0 where none is above 0.
-pub fn edge_sum(g: Grid, elevations: &[i16], cell: usize) -> u16
-    requires g_bound { size g < 2 ^ 24 }
-    requires cell_bound { cell < size g }
-    requires shaped { Shaped g }
-    ensures { result ≡ steepest_sum g elevations.now cell }
+#[tactic(auto, using(crate::proofs::Drops::edge_is))]
+pub fn edge_sum(t: &Terrain, cell: usize) -> u16
+    requires { cell < size t.now.raster.grid }
+    ensures { result ≡ steepest_sum t.now.raster.grid t.now.elevations.now cell }
 {
-    let own = cells::key_at(elevations, cell) as u16;
-    let keys = edge_keys(g, elevations, cell, own);
-    steepest_oblong(g.width as u32, g.height as u32, own, &keys)
+    let g = t.raster.grid;
+    let own = cells::key_at(t.elevations, cell);
+    let around = edge_keys(t, cell, own);
+    steepest_oblong(g.width as u32, g.height as u32, own, &around)
 }

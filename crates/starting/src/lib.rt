@@ -8,17 +8,11 @@ ghost use Rattle.std.specs.Prelude.{◌≡◌, false, cond, ◌+◌, ◌<◌, �
 ghost use Rattle.grid.specs.Below.{table, count_below};
 ghost use Rattle.starting.specs.Marked.{start_by, start_number};
 
-fn wide(x: u32) -> usize
-    ensures { result ≡ x }
-{
-    x as usize
-}
-
 // Whether `next` minus `own` is above `threshold`.
 fn rises_above(threshold: u32, next: u32, own: u32) -> bool
     ensures { result ≡ ltb (own + threshold) next }
 {
-    (own as u64) + (threshold as u64) < next as u64
+    u64::from(own) + u64::from(threshold) < u64::from(next)
 }
 
 fn is_start(n: usize, tail: &[u32], counts: &[u32], threshold: u32, c: usize) -> bool
@@ -27,7 +21,7 @@ fn is_start(n: usize, tail: &[u32], counts: &[u32], threshold: u32, c: usize) ->
     requires c_lt_n { c < n }
     ensures { result ≡ start_by n tail.now counts.now threshold c }
 {
-    let next = wide(tail[c]);
+    let next = tail[c] as usize;
     if next >= n {
         return false;
     }
@@ -81,10 +75,8 @@ pub fn number_starts(
     ensures value { result ≡ count_below n (start_by n tail.now counts.now threshold) }
 {
     let mut found: u32 = 0;
-    let mut c = 0;
-    while c < n {
+    for c in 0..n {
         found = number_cell(n, tail, counts, threshold, starts, c, found);
-        c += 1;
     }
     found
 }

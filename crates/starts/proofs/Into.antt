@@ -5,7 +5,6 @@ use Prim.Native.Nat.{ℕ, ◌+◌, ◌≤◌, ◌<◌}
 use native.Mathlib.Omega.{arith}
 use lib.ListN.{length, take, drop}
 use Rattle.grid.specs.declared.Grid.{Grid}
-use Rattle.grid.specs.declared.Counted.{Counted}
 use Rattle.grid.specs.Below.{table, count_below}
 use Rattle.grid.specs.Sheet.{size}
 use Rattle.grid.specs.Routes.{first_endless}
@@ -19,17 +18,16 @@ use Rattle.counting.proofs.Sheet.{ready_to_count}
 use Rattle.checks.proofs.Questions.{endless_≤, cell_no, cell_yes}
 use Rattle.starting.specs.Marked.{start_by, start_number}
 use Rattle.starting.proofs.Starts.{count_is, starts_are}
-use Rattle.checks.specs.Sizes.{Fits}
 use Rattle.starts.specs.Into.{Started}
 
-module _ (g : Grid) (codes t₀ t₁ : List ℕ) (fits : Fits g) (long : length codes ≡ size g) (room : size g + size g ≤ length t₀)
+module _ (g : Grid) (codes t₀ t₁ : List ℕ) (small : size g < 16777216) (long : length codes ≡ size g) (room : size g + size g ≤ length t₀)
     (same : length t₁ ≡ length t₀)
     (written : t₁ ≡ receivers g codes ++ drop (size g) t₀) where
   marks_are : take (size g) t₁ ≡ receivers g codes
   marks_are = receivers_front g codes (drop (size g) t₀) t₁ long written
 
   pub ready : Roomy (size g) t₁ × (Marks (size g) (take (size g) t₁) × FewDonors (size g) (mark_at t₁))
-  ready = let f = fits.cells in ready_to_count g codes (drop (size g) t₀) t₁ long written (omega arith) (omega arith)
+  ready = ready_to_count g codes (drop (size g) t₀) t₁ long written small (omega arith)
 
   module _ (t₂ : List ℕ) (first : ℕ) (C : T.Counted (size g) t₁ t₂ first) (counts : List ℕ) (threshold : ℕ) (starts₀ : List ℕ) where
     first_is : first ≡ first_endless g codes

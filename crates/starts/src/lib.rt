@@ -6,45 +6,35 @@
 ghost use Rattle.std.specs.Prelude.{◌≡◌, ◌+◌, ◌<◌, ◌≤◌, length};
 ghost use Rattle.grid.specs.Sheet.{size};
 ghost use Rattle.grid.specs.Promises.{StartsPromise};
-ghost use Rattle.route_laws.specs.Receivers.{AllCodes};
-ghost use Rattle.checks.specs.Sizes.{Fits};
+ghost use Rattle.refusals.specs.Answers.{counted_of};
 ghost use Rattle.starts.specs.Into.{Started};
 
-use grid::{Answer, Counted, Grid};
+use grid::Grid;
+use receivers::CodeSheet;
+use refusals::{Question, Refusal};
 
 // Question 12 and the starts, in the lent tail.
 fn starts_into(
-    g: Grid,
-    codes: &[u8],
+    codes: &CodeSheet,
     counts: &[u32],
     threshold: u32,
     starts: &mut [u32],
     tail: &mut [u32],
-) -> Counted
-    requires fits { Fits g }
-    requires codes_len { length codes.now ≡ size g }
-    requires counts_len { length counts.now ≡ size g }
-    requires starts_len { length starts.old ≡ size g }
-    requires g_in_bounds { size g + size g ≤ length tail.old }
-    requires all_codes { AllCodes codes.now }
-    ensures { Started g codes.now counts.now threshold starts.old starts.new result }
+) -> Result<u32, Refusal<u32>>
+    requires counts_len { length counts.now ≡ size codes.now.grid }
+    requires starts_len { length starts.old ≡ size codes.now.grid }
+    requires codes_in_bounds { size codes.now.grid + size codes.now.grid ≤ length tail.old }
+    ensures { Started codes.now.grid codes.now.codes.now counts.now threshold starts.old starts.new
+        (counted_of result) }
 {
-    let n = g.rows * g.cols;
-    receivers::receivers_from(g, codes, tail);
+    let n = codes.grid.rows * codes.grid.cols;
+    receivers::receivers_from(codes, tail);
     let first = accumulation::count_routes(n, tail);
     if first < n {
-        return Counted {
-            number: 12,
-            place: first as u32,
-            count: 0,
-        };
+        return Err(Question::Routes.at(first as u32));
     }
     let count = starting::number_starts(n, tail, counts, threshold, starts);
-    Counted {
-        number: 0,
-        place: 0,
-        count: count,
-    }
+    Ok(count)
 }
 
 // Codes, counts and a threshold to the numbers of the starts.
@@ -55,29 +45,19 @@ pub fn starts(
     threshold: u32,
     starts: &mut [u32],
     work: &mut [u32],
-) -> Counted
+) -> Result<u32, Refusal<u32>>
     ensures { StartsPromise g codes.now counts.now threshold starts.old starts.new
-        work.old work.new result }
+        work.old work.new (counted_of result) }
 {
     let given = codes.len();
     let wanted = starts.len();
     let room = work.len();
-    let answer = checks::check(g, given, counts.len(), wanted, wanted, wanted, wanted, room);
-    if answer.number != 0 {
-        return Counted {
-            number: answer.number,
-            place: answer.place,
-            count: 0,
-        };
-    }
+    checks::check(g, given, counts.len(), wanted, wanted, wanted, wanted, room)?;
     let bad = receivers::first_bad_code(g, codes);
     if bad < given {
-        return Counted {
-            number: 11,
-            place: bad as u32,
-            count: 0,
-        };
+        return Err(Question::Codes.at(bad as u32));
     }
+    let sheet = CodeSheet { grid: g, codes };
     let half = room / 2;
-    starts_into(g, codes, counts, threshold, starts, &mut work[half..])
+    starts_into(&sheet, counts, threshold, starts, &mut work[half..])
 }

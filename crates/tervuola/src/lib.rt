@@ -1,14 +1,42 @@
 // The C interface: "Our planning screen, written in C, calls the program with its own buffers". Thin entry points on numbers and slices
-// over the proved calls, each with the promise of the call behind it. A slice crosses as a pointer and a number of elements; structs come
-// back by value.
+// over the proved calls, each with the promise of the call behind it; `refusals` makes of a call's result the struct that C gets. A slice
+// crosses as a pointer and a number of elements; structs come back by value.
 #![tactic(auto)]
 
+ghost use Rattle.std.specs.Prelude.{◌≡◌};
 ghost use Rattle.grid.specs.Sheet.{grid_of, closed_grid, shaped_grid};
 ghost use Rattle.grid.specs.Promises.{CollectPromise, CountsPromise, CulvertsPromise, DirectionsPromise, DrainPromise, FillPromise};
 ghost use Rattle.grid.specs.Promises.{HandInPromise, LabelsPromise, ListsPromise, PartPromise, PondsPromise, PourPointsPromise};
 ghost use Rattle.grid.specs.Promises.{ReadPromise, RunPromise, StartsPromise, WatershedsPromise, WritePromise};
 
 use grid::{Answer, Collected, Counted, Dimensions, Grid, Located, Part};
+
+// The sheet's description, from numbers as C has them.
+fn shaped_grid(rows: u32, cols: u32, sides: u32, width: u32, height: u32) -> Grid
+    ensures { result ≡ shaped_grid rows cols sides width height }
+{
+    Grid {
+        rows: rows as usize,
+        cols: cols as usize,
+        sides: sides as usize,
+        width: width as usize,
+        height: height as usize,
+    }
+}
+
+// Of cells of 1 by 1, for calls that work out no codes.
+fn closed_grid(rows: u32, cols: u32, sides: u32) -> Grid
+    ensures { result ≡ closed_grid rows cols sides }
+{
+    shaped_grid(rows, cols, sides, 1, 1)
+}
+
+// With every side open, for calls that work out no outlets.
+fn grid_of(rows: u32, cols: u32) -> Grid
+    ensures { result ≡ grid_of rows cols }
+{
+    closed_grid(rows, cols, 0)
+}
 
 // Elevations to the filled sheet.
 #[unsafe(no_mangle)]
@@ -23,14 +51,8 @@ pub extern "C" fn tervuola_fill(
     ensures { FillPromise (closed_grid rows cols sides) elevations.now filled.old filled.new
         work.old work.new result }
 {
-    let g = Grid {
-        rows: rows as usize,
-        cols: cols as usize,
-        sides: sides as usize,
-        width: 1,
-        height: 1,
-    };
-    fill::fill(g, elevations, filled, work)
+    let g = closed_grid(rows, cols, sides);
+    refusals::answer(fill::fill(g, elevations, filled, work))
 }
 
 // Elevations to ponds.
@@ -50,14 +72,8 @@ pub extern "C" fn tervuola_ponds(
         level.old level.new cells.old cells.new volume.old volume.new
         work.old work.new result }
 {
-    let g = Grid {
-        rows: rows as usize,
-        cols: cols as usize,
-        sides: sides as usize,
-        width: 1,
-        height: 1,
-    };
-    ponds::ponds(g, elevations, ponds, level, cells, volume, work)
+    let g = closed_grid(rows, cols, sides);
+    refusals::counted(ponds::ponds(g, elevations, ponds, level, cells, volume, work))
 }
 
 // Any sheet to its flow directions.
@@ -75,14 +91,8 @@ pub extern "C" fn tervuola_directions(
     ensures { DirectionsPromise (shaped_grid rows cols sides width height) elevations.now codes.old
         codes.new work.old work.new result }
 {
-    let g = Grid {
-        rows: rows as usize,
-        cols: cols as usize,
-        sides: sides as usize,
-        width: width as usize,
-        height: height as usize,
-    };
-    directions::directions(g, elevations, codes, work)
+    let g = shaped_grid(rows, cols, sides, width, height);
+    refusals::answer(directions::directions(g, elevations, codes, work))
 }
 
 // Codes to flow accumulation counts.
@@ -97,14 +107,8 @@ pub extern "C" fn tervuola_counts(
     ensures { CountsPromise (grid_of rows cols) codes.now counts.old counts.new work.old
         work.new result }
 {
-    let g = Grid {
-        rows: rows as usize,
-        cols: cols as usize,
-        sides: 0,
-        width: 1,
-        height: 1,
-    };
-    counts::counts(g, codes, counts, work)
+    let g = grid_of(rows, cols);
+    refusals::answer(counts::counts(g, codes, counts, work))
 }
 
 // Codes to basin labels.
@@ -119,14 +123,8 @@ pub extern "C" fn tervuola_labels(
     ensures { LabelsPromise (grid_of rows cols) codes.now labels.old labels.new work.old
         work.new result }
 {
-    let g = Grid {
-        rows: rows as usize,
-        cols: cols as usize,
-        sides: 0,
-        width: 1,
-        height: 1,
-    };
-    labels::labels(g, codes, labels, work)
+    let g = grid_of(rows, cols);
+    refusals::answer(labels::labels(g, codes, labels, work))
 }
 
 // Elevations to filled sheet, codes, counts and labels.
@@ -148,14 +146,8 @@ pub extern "C" fn tervuola_drain(
         filled.new codes.old codes.new counts.old counts.new labels.old
         labels.new work.old work.new result }
 {
-    let g = Grid {
-        rows: rows as usize,
-        cols: cols as usize,
-        sides: sides as usize,
-        width: width as usize,
-        height: height as usize,
-    };
-    drainage::drain(g, elevations, filled, codes, counts, labels, work)
+    let g = shaped_grid(rows, cols, sides, width, height);
+    refusals::answer(drainage::drain(g, elevations, filled, codes, counts, labels, work))
 }
 
 // Elevations and lists of cells and levels to the four results of the sheet with each of these cells at its lowest level.
@@ -179,16 +171,10 @@ pub extern "C" fn tervuola_culverts(
         levels.now filled.old filled.new codes.old codes.new counts.old
         counts.new labels.old labels.new work.old work.new result }
 {
-    let g = Grid {
-        rows: rows as usize,
-        cols: cols as usize,
-        sides: sides as usize,
-        width: width as usize,
-        height: height as usize,
-    };
-    culverts::culverts(
+    let g = shaped_grid(rows, cols, sides, width, height);
+    refusals::located(culverts::culverts(
         g, elevations, cells, levels, filled, codes, counts, labels, work,
-    )
+    ))
 }
 
 // Codes and starts to watersheds.
@@ -204,14 +190,8 @@ pub extern "C" fn tervuola_watersheds(
     ensures { WatershedsPromise (grid_of rows cols) codes.now starts.now watersheds.old
         watersheds.new work.old work.new result }
 {
-    let g = Grid {
-        rows: rows as usize,
-        cols: cols as usize,
-        sides: 0,
-        width: 1,
-        height: 1,
-    };
-    watersheds::watersheds(g, codes, starts, watersheds, work)
+    let g = grid_of(rows, cols);
+    refusals::answer(watersheds::watersheds(g, codes, starts, watersheds, work))
 }
 
 // Codes, counts and a threshold to starts (Table 5).
@@ -228,14 +208,8 @@ pub extern "C" fn tervuola_starts(
     ensures { StartsPromise (grid_of rows cols) codes.now counts.now threshold starts.old
         starts.new work.old work.new result }
 {
-    let g = Grid {
-        rows: rows as usize,
-        cols: cols as usize,
-        sides: 0,
-        width: 1,
-        height: 1,
-    };
-    starts::starts(g, codes, counts, threshold, starts, work)
+    let g = grid_of(rows, cols);
+    refusals::counted(starts::starts(g, codes, counts, threshold, starts, work))
 }
 
 // Elevations and labels to pour points (Table 6).
@@ -254,14 +228,10 @@ pub extern "C" fn tervuola_pour_points(
         smaller.new larger.old larger.new elevation.old elevation.new
         cell.old cell.new result }
 {
-    let g = Grid {
-        rows: rows as usize,
-        cols: cols as usize,
-        sides: 0,
-        width: 1,
-        height: 1,
-    };
-    pour_points::pour_points(g, elevations, labels, smaller, larger, elevation, cell)
+    let g = grid_of(rows, cols);
+    refusals::counted(pour_points::pour_points(
+        g, elevations, labels, smaller, larger, elevation, cell,
+    ))
 }
 
 // Two lists of cells to a number and a place.
@@ -274,14 +244,8 @@ pub extern "C" fn tervuola_check_lists(
 ) -> Located
     ensures { ListsPromise (grid_of rows cols) first.now second.now result }
 {
-    let g = Grid {
-        rows: rows as usize,
-        cols: cols as usize,
-        sides: 0,
-        width: 1,
-        height: 1,
-    };
-    lists::check_lists(g, first, second)
+    let g = grid_of(rows, cols);
+    refusals::located(lists::check_lists(g, first, second))
 }
 
 // Two lists of cells to the end of the first that both share. No exported function returns a reference, so C gets the part by its place and
@@ -295,13 +259,7 @@ pub extern "C" fn tervuola_shared_ending(
 ) -> Part
     ensures { PartPromise (grid_of rows cols) first.now second.now result }
 {
-    let g = Grid {
-        rows: rows as usize,
-        cols: cols as usize,
-        sides: 0,
-        width: 1,
-        height: 1,
-    };
+    let g = grid_of(rows, cols);
     let part = ending::shared_ending(g, first, second);
     let count = part.len();
     Part {
@@ -324,14 +282,8 @@ pub extern "C" fn tervuola_hand_in(
     ensures { HandInPromise (grid_of rows cols) codes.now crew cell crews.old crews.new
         work.old work.new result }
 {
-    let g = Grid {
-        rows: rows as usize,
-        cols: cols as usize,
-        sides: 0,
-        width: 1,
-        height: 1,
-    };
-    tracing::hand_in(g, codes, crew, cell, crews, work)
+    let g = grid_of(rows, cols);
+    refusals::answer(tracing::hand_in(g, codes, crew, cell, crews, work))
 }
 
 // Turns of the crews' traces on a sheet of codes.
@@ -347,14 +299,8 @@ pub extern "C" fn tervuola_run(
     ensures { RunPromise (grid_of rows cols) codes.now turns crews.old crews.new work.old
         work.new result }
 {
-    let g = Grid {
-        rows: rows as usize,
-        cols: cols as usize,
-        sides: 0,
-        width: 1,
-        height: 1,
-    };
-    tracing::run(g, codes, turns, crews, work)
+    let g = grid_of(rows, cols);
+    refusals::answer(tracing::run(g, codes, turns, crews, work))
 }
 
 // A crew asks for its trace.
@@ -362,7 +308,7 @@ pub extern "C" fn tervuola_run(
 pub extern "C" fn tervuola_collect(crew: u32, crews: &mut [u64; 66]) -> Collected
     ensures { CollectPromise crew crews.old crews.new result }
 {
-    tracing::collect(crew, crews)
+    refusals::collected(tracing::collect(crew, crews))
 }
 
 // A text frame to rows, columns and elevations.
@@ -370,7 +316,7 @@ pub extern "C" fn tervuola_collect(crew: u32, crews: &mut [u64; 66]) -> Collecte
 pub extern "C" fn tervuola_read(text: &[u8], elevations: &mut [i16]) -> Dimensions
     ensures { ReadPromise text.now elevations.old elevations.new result }
 {
-    reader::read(text, elevations)
+    refusals::dimensions(reader::read(text, elevations))
 }
 
 // Rows, columns and elevations to a text frame.
@@ -383,12 +329,6 @@ pub extern "C" fn tervuola_write(
 ) -> Counted
     ensures { WritePromise (grid_of rows cols) elevations.now text.old text.new result }
 {
-    let g = Grid {
-        rows: rows as usize,
-        cols: cols as usize,
-        sides: 0,
-        width: 1,
-        height: 1,
-    };
-    writer::write(g, elevations, text)
+    let g = grid_of(rows, cols);
+    refusals::counted(writer::write(g, elevations, text))
 }

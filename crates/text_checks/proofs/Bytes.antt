@@ -1,96 +1,100 @@
 -- What the tests of single bytes say of the whole text.
-use mathlib.Core.Path.{◌≡◌, refl, sym, ap, ◌∙◌}
-use mathlib.Core.Bool.{Bool, true, false, not, cond, ◌&&◌}
-use mathlib.Core.List.{List}
-use mathlib.Core.Logic.{◌⊎◌, inl, inr, ⊎_elim}
-use Prim.Native.Nat.{ℕ, ◌≤◌, ◌<◌}
-use native.Mathlib.Omega.{arith}
-use lib.Dec.{eqb}
-use lib.ListN.{length, get_or}
-use borrow.Author.Tests.{lt-ltb, le-ltb, le-leb, lt-leb, eq-eqb, ne_eqb}
+use Rattle.std.proofs.Common.{◌≡◌, ℕ, ◌<◌, ◌≤◌, Bool, true, false, not, cond, ◌&&◌, ltb, eqb, List, length, get_or, Some, None, MatchBool, refl, sym, ap, subst, ◌∙◌, arith}
+use Rattle.std.specs.declared.option.Option.{Option}
+use Rattle.std.specs.Option.{unwrap_or}
+use Rattle.std.specs.List.{position_or_len, enumerate_from, AllWithin, HoldsAt}
+use Rattle.std.proofs.lemmas.List.Recursion.{is_position_or_len}
+use Rattle.std.proofs.lemmas.List.Sums.{prefix_len-le-length}
+use Rattle.std.proofs.lemmas.List.FromFn.{length-enumerate_from, get_or-enumerate_from}
+use native.Mathlib.Nat.{zero-add}
+use native.Mathlib.Decide.{dec_lt}
+use borrow.Author.Tests.{lt-ltb, le-ltb, lt-leb, le-leb, eq-eqb, ne_eqb}
 use Rattle.grid.specs.declared.Grid.{Grid}
-use Rattle.grid.specs.Frames.{line_feed, hex_value, is_text_byte, number4, text_grid, ends_line, text_length, is_shaped, first_bad_byte}
-use Rattle.grid_laws.proofs.Below.{first_none, first_is, none_of, any_of}
-use Rattle.text_checks.specs.Shape.{is_placed, feeds_end_lines}
+use Rattle.grid.specs.Below.{first_below}
+use Rattle.grid.specs.Frames.{line_feed, is_text_byte, number4, text_grid, ends_line, text_length, is_shaped, first_bad_byte}
+use Rattle.grid_laws.proofs.Below.{none_of, any_of}
+use Rattle.text_checks.specs.Shape.{feeds_end_lines}
 
 -- ---- question 2
 
-pub digit_fits : (b : ℕ) → hex_value b < 16 → is_text_byte b ≡ true
-unfolding is_text_byte
-digit_fits b h = rw (lt-ltb (hex_value b) 16 h)
+-- the test that the first bad byte passes
+abbrev pub is_bad : ℕ → Bool
+is_bad b = not (is_text_byte b)
 
-pub no_digit_fits : (b : ℕ) → 16 ≤ hex_value b → is_text_byte b ≡ eqb b 10
-unfolding is_text_byte
-no_digit_fits b h = rw (le-ltb (hex_value b) 16 h)
+first_bad_is : (text : List ℕ) → first_bad_byte text ≡ position_or_len is_bad text
+unfolding first_bad_byte first_below
+first_bad_is text =
+    is_position_or_len (λ l. first_below (length l) (λ i. is_bad (get_or l i 0))) is_bad refl
+    (λ x xs. ap (cond (is_bad x) 0) (omega arith)) text
 
--- the first i bytes are digits or line feeds
-abbrev pub FineTo : List ℕ → ℕ → Type 0
-FineTo text i = (k : ℕ) → k < i → is_text_byte (get_or text k 0) ≡ true
+read : (p n : ℕ) → p ≤ n → Dec (p < n) → unwrap_or (cond (ltb p n) (Some p) None) n ≡ p
+read p n b (yes l) = rw (lt-ltb p n l) refl
+read p n b (no h) = rw (le-ltb p n (omega arith)) (omega arith)
 
-pub bad_byte : (text : List ℕ) (i : ℕ) → i < length text → FineTo text i → is_text_byte (get_or text i 0) ≡ false → i ≡ first_bad_byte text
-unfolding first_bad_byte
-bad_byte text i l h e = sym (first_is (length text) (λ k. not (is_text_byte (get_or text k 0))) i l (ap not e) (λ k m. ap not (h k m)))
-
-pub no_bad_byte : (text : List ℕ) (i : ℕ) → i ≡ length text → FineTo text i → i ≡ first_bad_byte text
-unfolding first_bad_byte
-no_bad_byte text i e h =
-    e ∙ sym (first_none (length text) (λ k. not (is_text_byte (get_or text k 0))) (λ k m. ap not (h k (omega arith))))
+-- the place where there is one, and else the length
+pub place_is : (text : List ℕ) (r : Option ℕ) (place : ℕ)
+    → r ≡ cond (ltb (position_or_len is_bad text) (length text)) (Some (position_or_len is_bad text)) None
+    → place ≡ unwrap_or r (length text)
+    → (place ≡ first_bad_byte text) × (place ≤ length text)
+place_is text r place e u =
+    let p : ℕ = position_or_len is_bad text in
+    let b : p ≤ length text = prefix_len-le-length (λ b. not (is_bad b)) text in
+    let q : place ≡ p = u ∙ ap (λ (o : Option ℕ). unwrap_or o (length text)) e ∙ read p (length text) b (dec_lt p (length text)) in
+    (q ∙ sym (first_bad_is text), rw q b)
 
 -- ---- question 3
 
-pub placed_feed : (cols b i : ℕ) → b ≡ 10 → is_placed cols b i ≡ ends_line cols i
-unfolding is_placed
-placed_feed cols b i e = rw (eq-eqb b 10 e)
+-- a line feed stands where a line ends, and nowhere else
+abbrev pub IsRight : (cols : ℕ) → ℕ × ℕ → Type 0
+IsRight cols p = eqb p.1 line_feed ≡ ends_line cols p.0
 
-pub placed_digit : (cols b i : ℕ) → (b ≡ 10 → ⊥) → is_placed cols b i ≡ not (ends_line cols i)
-unfolding is_placed
-placed_digit cols b i n = rw (ne_eqb b 10 n)
+right_first : (f e : Bool) → f ≡ e → (not f && e) ≡ false
+right_first f true h = rw h refl
+right_first f false h = rw h refl
 
--- where a byte is right, neither condition fails at it; where it is wrong, one does
-right_first : (f e : Bool) → cond f e (not e) ≡ true → (not f && e) ≡ false
-right_first true e h = refl
-right_first false true h = sym h
-right_first false false h = refl
+right_second : (f e : Bool) → f ≡ e → (f && not e) ≡ false
+right_second f true h = rw h refl
+right_second f false h = rw h refl
 
-right_second : (f e : Bool) → cond f e (not e) ≡ true → (f && not e) ≡ false
-right_second true true h = refl
-right_second true false h = sym h
-right_second false e h = refl
-
-wrong_either : (f e : Bool) → cond f e (not e) ≡ false → ((not f && e) ≡ true) ⊎ ((f && not e) ≡ true)
-wrong_either true true h = inl (sym h)
-wrong_either true false h = inr refl
-wrong_either false true h = inl refl
-wrong_either false false h = inr (sym h)
-
--- the first i bytes are right
-abbrev pub PlacedTo : ℕ → List ℕ → ℕ → Type 0
-PlacedTo cols text i = (k : ℕ) → k < i → is_placed cols (get_or text k 0) k ≡ true
+wrong_neither : (f e a b : Bool) → (f ≡ e → ⊥) → ((not f && e) ≡ true → a ≡ true) → ((f && not e) ≡ true → b ≡ true) → (not a && not b) ≡ false
+wrong_neither true true a b n p q = absurd (n refl)
+wrong_neither true false true b n p q = refl
+wrong_neither true false false b n p q = rw (q refl) refl
+wrong_neither false true a b n p q = rw (p refl) refl
+wrong_neither false false a b n p q = absurd (n refl)
 
 module _ (cols : ℕ) (text : List ℕ) where
-  pub all_placed : (i : ℕ) → i ≡ length text → PlacedTo cols text i → feeds_end_lines text cols ≡ true
-  unfolding feeds_end_lines is_placed
-  all_placed i e h =
+  all_right : ((k : ℕ) → k < length text → IsRight cols (k, get_or text k 0)) → feeds_end_lines text cols ≡ true
+  unfolding feeds_end_lines
+  all_right h =
       rw (
         none_of (length text) (λ k. not (eqb (get_or text k 0) line_feed) && ends_line cols k)
-            (λ k m. right_first (eqb (get_or text k 0) line_feed) (ends_line cols k) (h k (omega arith))),
+            (λ k m. right_first (eqb (get_or text k 0) line_feed) (ends_line cols k) (h k m)),
         none_of (length text) (λ k. eqb (get_or text k 0) line_feed && not (ends_line cols k))
-            (λ k m. right_second (eqb (get_or text k 0) line_feed) (ends_line cols k) (h k (omega arith))),
+            (λ k m. right_second (eqb (get_or text k 0) line_feed) (ends_line cols k) (h k m)),
       )
 
-  neither : (a b : Bool) → (a ≡ true) ⊎ (b ≡ true) → (not a && not b) ≡ false
-  neither a b (inl e) = rw e
-  neither true b (inr e) = refl
-  neither false b (inr e) = rw e
+  one_wrong : (i : ℕ) → i < length text → (IsRight cols (i, get_or text i 0) → ⊥) → feeds_end_lines text cols ≡ false
+  unfolding feeds_end_lines
+  one_wrong i l n =
+      wrong_neither (eqb (get_or text i 0) line_feed) (ends_line cols i) _ _ n
+      (λ e. any_of (length text) (λ k. not (eqb (get_or text k 0) line_feed) && ends_line cols k) i l e)
+      (λ e. any_of (length text) (λ k. eqb (get_or text k 0) line_feed && not (ends_line cols k)) i l e)
 
-  pub one_misplaced : (i : ℕ) → i < length text → is_placed cols (get_or text i 0) i ≡ false → feeds_end_lines text cols ≡ false
-  unfolding feeds_end_lines is_placed
-  one_misplaced i l e =
-      neither _ _
-      (⊎_elim
-      (λ w. inl (any_of (length text) (λ k. not (eqb (get_or text k 0) line_feed) && ends_line cols k) i l w))
-      (λ w. inr (any_of (length text) (λ k. eqb (get_or text k 0) line_feed && not (ends_line cols k)) i l w))
-      (wrong_either (eqb (get_or text i 0) line_feed) (ends_line cols i) e))
+  -- a byte with its place
+  numbered : (k : ℕ) → k < length text → get_or (enumerate_from 0 text) k (0, 0) ≡ (k, get_or text k 0)
+  numbered k m = get_or-enumerate_from 0 text k (0, 0) m ∙ ap (λ (i : ℕ). (i, get_or text k 0)) (zero-add k)
+
+  pub feeds_is : (r : Bool)
+      → MatchBool r (AllWithin (IsRight cols) (enumerate_from 0 text) 0 (length (enumerate_from 0 text)))
+      ((k : ℕ) × (k < length (enumerate_from 0 text)) × HoldsAt (λ p. IsRight cols p → ⊥) (enumerate_from 0 text) k)
+      → r ≡ feeds_end_lines text cols
+  feeds_is true h =
+      let long = length-enumerate_from 0 text in
+      sym (all_right (λ k m. subst (IsRight cols) (numbered k m) (h k (0, 0) (omega arith) (omega (arith, long)))))
+  feeds_is false h =
+      let m : h.0 < length text = omega (arith, h.1, length-enumerate_from 0 text) in
+      sym (one_wrong h.0 m (subst (λ p. IsRight cols p → ⊥) (numbered h.0 m) (h.2 (0, 0))))
 
 module _ (text : List ℕ) where
   pub too_short : length text < 9 → is_shaped text ≡ false

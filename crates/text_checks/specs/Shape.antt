@@ -1,12 +1,8 @@
 -- Question 3 byte by byte, and the header.
-use Rattle.std.specs.Prelude.{◌≡◌, Bool, not, cond, ◌&&◌, List, ℕ, ◌≤◌, eqb, length, get_or}
+use Rattle.std.specs.Prelude.{◌≡◌, Bool, not, ◌&&◌, List, ℕ, ◌≤◌, eqb, length, get_or}
 use Rattle.grid.specs.Below.{any_below}
 use Rattle.grid.specs.declared.Grid.{Grid}
 use Rattle.grid.specs.Frames.{line_feed, ends_line, text_grid}
-
--- byte b is right at place i: a line feed where a line ends, and nowhere else
-unfoldable pub is_placed : ℕ → ℕ → ℕ → Bool
-is_placed cols b i = cond (eqb b line_feed) (ends_line cols i) (not (ends_line cols i))
 
 -- line feeds stand where lines end and nowhere else: the two last conditions of `is_shaped`
 unfoldable pub feeds_end_lines : List ℕ → ℕ → Bool

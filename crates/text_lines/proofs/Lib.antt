@@ -1,2 +1,4 @@
+pub mod Hex
 pub mod Lines
-pub mod Sixteen
+pub mod Rows
+pub mod Twos

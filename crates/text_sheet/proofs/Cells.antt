@@ -1,76 +1,34 @@
--- A line number by number and a sheet line by line: what the loops keep, at the start, after one more, and at the end.
-use mathlib.Core.Path.{◌≡◌, refl, sym, ap, ◌∙◌}
-use mathlib.Core.List.{List, [], ◌∷◌, ◌++◌}
-use Prim.Native.Nat.{ℕ, ◌+◌, ◌*◌, ◌≤◌}
-use native.Mathlib.Nat.{suc-mul, zero-mul, zero-add}
-use native.Mathlib.Numerals.{add-one}
-use native.Mathlib.Omega.{arith}
+-- A sheet line by line: what the loop keeps, at the start, after one more, and at the end.
+use Rattle.std.proofs.Common.{◌≡◌, refl, sym, ap, ap₂, ◌∙◌, List, ◌++◌, ℕ, ◌+◌, ◌-◌, ◌*◌, ◌≤◌, ◌<◌, ℤ, length, take, drop, length-take-le, length-drop, arith}
+use Rattle.std.proofs.lemmas.List.{take-append-drop}
+use Rattle.std.proofs.lemmas.Slice.{take-put_mid, drop-put_mid}
+use borrow.Rule.Slice.PartMut.{put_mid}
 use lib.Arith.{digits_div, digits_mod}
-use lib.IntN.{ℤ}
-use lib.ListN.{length, set, drop, length-set}
-use lib.Seq.{sets, length-sets}
+use lib.Seq.{drop-drop}
+use native.Mathlib.Nat.{suc-mul, zero-mul}
+use native.Mathlib.Numerals.{add-one}
 use Rattle.grid.specs.declared.Grid.{Grid}
 use Rattle.grid.specs.Below.{table}
 use Rattle.grid.specs.Sheet.{size}
 use Rattle.grid.specs.Frames.{number4, text_grid, from_twos, cell_place, text_sheet}
-use Rattle.cursor.specs.declared.Cursor.{Cursor}
 use Rattle.grid_laws.proofs.Below.{length_table, table_ext}
-use Rattle.text_laws.proofs.Runs.{sets_next, sets_front, table_add, table_next}
-use Rattle.text_sheet.specs.Rows.{elevations_from, LineRead}
-
--- q numbers of the line that starts at place `from` are stored, from cell c on
-pub record NumbersTo (text : List ℕ) (from c : ℕ) (e₀ e : List ℤ) (next : Cursor) (q : ℕ) : Type 0 where
-  pub same_length : length e ≡ length e₀
-  pub next_place : next.at ≡ from + 4 * q
-  pub stored : e ≡ sets e₀ c (elevations_from text from q)
-
-module _ (text : List ℕ) (from c : ℕ) (e₀ : List ℤ) where
-  pub numbers_none : {next : Cursor} → next.at ≡ from → NumbersTo text from c e₀ e₀ next 0
-  unfolding table
-  numbers_none h = record { same_length = refl; next_place = omega arith; stored = refl }
-
-  pub numbers_more : {e : List ℤ} {next next₁ : Cursor} {q : ℕ} {v : ℤ} → NumbersTo text from c e₀ e next q
-      → v ≡ from_twos (number4 text next.at) → next₁.at ≡ next.at + 4 → NumbersTo text from c e₀ (set e (c + q) v) next₁ (q + 1)
-  numbers_more {e} {next} {next₁} {q} {v} h w n =
-      let p : next.at ≡ from + 4 * q = h.next_place in
-      record {
-        same_length = length-set e (c + q) v ∙ h.same_length;
-        next_place = omega arith;
-        stored =
-            ap (λ (l : List ℤ). set l (c + q) v) h.stored
-            ∙ sets_next (elevations_from text from q) (v ∷ []) e₀ c (c + q)
-            (ap (λ (k : ℕ). c + k) (sym (length_table q (λ k. from_twos (number4 text (from + 4 * k))))))
-            ∙ ap (λ (x : ℤ). sets e₀ c (elevations_from text from q ++ (x ∷ []))) (w ∙ ap (λ (i : ℕ). from_twos (number4 text i)) p)
-            ∙ ap (λ (l : List ℤ). sets e₀ c l) (sym (table_next q (λ k. from_twos (number4 text (from + 4 * k)))));
-      }
-
-  -- past the line feed
-  pub numbers_end : {e : List ℤ} {next next₁ : Cursor} {cols : ℕ} → NumbersTo text from c e₀ e next cols → next₁.at ≡ next.at + 1
-      → LineRead text cols from c e₀ e next₁
-  numbers_end {e} {next} {next₁} {cols} h n =
-      let p : next.at ≡ from + 4 * cols = h.next_place in
-      record { next_place = omega arith; stored = h.stored }
+use Rattle.text_laws.proofs.Runs.{one_more_fits, table_add}
+use Rattle.text_sheet.specs.Rows.{elevations_from}
 
 -- the elevation of cell c, where each line has cols
 abbrev cell_value : List ℕ → ℕ → ℕ → ℤ
 cell_value text cols c = from_twos (number4 text (cell_place cols c))
 
--- r lines are stored
-pub record LinesTo (text : List ℕ) (cols : ℕ) (e₀ e : List ℤ) (next : Cursor) (c r : ℕ) : Type 0 where
-  pub same_length : length e ≡ length e₀
-  pub next_cell : c ≡ r * cols
-  pub next_place : next.at ≡ 9 + r * (4 * cols + 1)
-  pub stored : e ≡ sets e₀ 0 (table (r * cols) (cell_value text cols))
+-- r lines are stored, and what stood past them stands
+pub record LinesTo (text : List ℕ) (cols : ℕ) (e₀ e : List ℤ) (next r : ℕ) : Type 0 where
+  pub next_place : next ≡ 9 + r * (4 * cols + 1)
+  pub stored : take (r * cols) e ≡ table (r * cols) (cell_value text cols)
+  pub beyond : drop (r * cols) e ≡ drop (r * cols) e₀
 
 module _ (text : List ℕ) (cols : ℕ) (e₀ : List ℤ) where
-  pub lines_none : LinesTo text cols e₀ e₀ record { at = 9 } 0 0
+  pub lines_none : LinesTo text cols e₀ e₀ 9 0
   unfolding table
-  lines_none = record {
-    same_length = refl;
-    next_cell = sym (zero-mul cols);
-    next_place = rw (zero-mul (4 * cols + 1));
-    stored = rw (zero-mul cols);
-  }
+  lines_none = record { next_place = rw (zero-mul (4 * cols + 1)); stored = rw (zero-mul cols); beyond = refl }
 
   -- the cells of line r
   cells_of_line : (r : ℕ) → table cols (λ k. cell_value text cols (r * cols + k)) ≡ elevations_from text (9 + r * (4 * cols + 1)) cols
@@ -78,29 +36,43 @@ module _ (text : List ℕ) (cols : ℕ) (e₀ : List ℤ) where
       table_ext cols (λ k. cell_value text cols (r * cols + k)) (λ k. from_twos (number4 text (9 + r * (4 * cols + 1) + 4 * k)))
       (λ k l. rw (digits_div r l, digits_mod r l))
 
-  pub lines_more : {e e₁ : List ℤ} {next next₁ : Cursor} {c r : ℕ} → LinesTo text cols e₀ e next c r →
-      LineRead text cols next.at c e e₁ next₁
-      → LinesTo text cols e₀ e₁ next₁ (c + cols) (r + 1)
-  lines_more {e} {e₁} {next} {next₁} {c} {r} h p = record {
-    same_length = ap length p.stored ∙ length-sets e c (elevations_from text next.at cols) ∙ h.same_length;
-    next_cell = ap (λ (n : ℕ). n + cols) h.next_cell ∙ rw (add-one r, suc-mul r cols);
-    next_place =
-        p.next_place ∙ ap (λ (n : ℕ). n + (4 * cols + 1)) h.next_place ∙ rw (add-one r, suc-mul r (4 * cols + 1)) (omega arith);
-    stored =
-        p.stored
-        ∙ ap (λ (l : List ℤ). sets l c (elevations_from text next.at cols)) h.stored
-        ∙ ap (λ (i : ℕ). sets (sets e₀ 0 (table (r * cols) (cell_value text cols))) c (elevations_from text i cols)) h.next_place
-        ∙ sets_next (table (r * cols) (cell_value text cols)) (elevations_from text (9 + r * (4 * cols + 1)) cols) e₀ 0 c
-        (h.next_cell ∙ sym (zero-add _ ∙ length_table (r * cols) (cell_value text cols)))
-        ∙ ap (λ (l : List ℤ). sets e₀ 0 (table (r * cols) (cell_value text cols) ++ l)) (sym (cells_of_line r))
-        ∙ ap (λ (l : List ℤ). sets e₀ 0 l) (sym (table_add (r * cols) cols (cell_value text cols)))
-        ∙ rw (add-one r, suc-mul r cols);
-  }
+  module _ (e : List ℤ) (r rows : ℕ) (h : r < rows) (s : rows * cols ≤ length e) where
+    -- the places of line r
+    abbrev part : List ℤ
+    part = take ((r + 1) * cols - r * cols) (drop (r * cols) e)
 
-pub lines_end : (text : List ℕ) (g : Grid) (e₀ : List ℤ) {e : List ℤ} {next : Cursor} {c : ℕ} → g ≡ text_grid text → size g ≤ length e₀
-    → LinesTo text g.cols e₀ e next c g.rows → e ≡ text_sheet text ++ drop (size g) e₀
+    more : (r + 1) * cols ≡ r * cols + cols
+    more = rw (add-one r) (suc-mul r cols)
+
+    long : length part ≡ cols
+    long = length-take-le _ _ (omega (arith, more, one_more_fits cols h, length-drop (r * cols) e)) ∙ omega (arith, more)
+
+    pub lines_more : {next next₁ : ℕ} {line : List ℤ} → LinesTo text cols e₀ e next r → next₁ ≡ next + (4 * length part + 1)
+        → line ≡ elevations_from text next (length part)
+        → LinesTo text cols e₀ (put_mid (r * cols) ((r + 1) * cols - r * cols) e line) next₁ (r + 1)
+    lines_more {next} {next₁} {line} p n v =
+        let w : line ≡ elevations_from text (9 + r * (4 * cols + 1)) cols = v ∙ ap (elevations_from text next) long ∙ ap (λ (i : ℕ). elevations_from text i cols) p.next_place in
+        let q : length line ≡ cols = ap length w ∙ length_table cols _ in
+        let fits : r * cols ≤ length e = omega (arith, one_more_fits cols h, s) in
+        record {
+          next_place = n ∙ omega (arith, p.next_place, long, add-one r, suc-mul r (4 * cols + 1));
+          stored =
+              take-put_mid (r * cols) ((r + 1) * cols - r * cols) e line ((r + 1) * cols) (omega (arith, more, q)) fits
+              ∙ ap₂ ◌++◌ p.stored (w ∙ sym (cells_of_line r))
+              ∙ sym (table_add (r * cols) cols (cell_value text cols))
+              ∙ ap (λ (m : ℕ). table m (cell_value text cols)) (sym more);
+          beyond =
+              drop-put_mid (r * cols) ((r + 1) * cols - r * cols) e line ((r + 1) * cols) (omega (arith, more)) fits (omega (arith, more, q))
+              ∙ ap (λ (m : ℕ). drop m e) more
+              ∙ sym (drop-drop cols (r * cols) e)
+              ∙ ap (λ (l : List ℤ). drop cols l) p.beyond
+              ∙ drop-drop cols (r * cols) e₀
+              ∙ ap (λ (m : ℕ). drop m e₀) (sym more);
+        }
+
+pub lines_end : (text : List ℕ) (g : Grid) (e₀ : List ℤ) {e : List ℤ} {next r : ℕ} → g ≡ text_grid text → r ≡ g.rows
+    → LinesTo text g.cols e₀ e next r → e ≡ text_sheet text ++ drop (size g) e₀
 unfolding text_sheet
-lines_end text g e₀ s h p =
-    p.stored
-    ∙ sets_front (table (size g) (cell_value text g.cols)) e₀ (omega (arith, length_table (size g) (cell_value text g.cols)))
-    ∙ rw (length_table (size g) (cell_value text g.cols), s)
+lines_end text g e₀ {e} {next} {r} s n p =
+    let q : LinesTo text g.cols e₀ e next g.rows = rw n at p in
+    sym (take-append-drop (size g) e) ∙ ap₂ ◌++◌ (q.stored ∙ ap (λ (x : Grid). table (size x) (cell_value text x.cols)) s) q.beyond

@@ -6,23 +6,21 @@
 ghost use Rattle.std.specs.Prelude.{◌≡◌, ◌++◌, ◌+◌, ◌*◌, ◌≤◌, length, drop};
 ghost use Rattle.grid.specs.Sheet.{size};
 ghost use Rattle.grid.specs.Frames.{text_grid, text_length, text_sheet};
-ghost use Rattle.text_sheet.specs.Rows.{LineRead};
+ghost use Rattle.text_sheet.specs.Rows.{elevations_from};
 
 use cursor::Cursor;
 use grid::Grid;
 
-fn read_line(start: Cursor, text: &[u8], cols: usize, elevations: &mut [i16], c: usize) -> Cursor
-    requires { (start.at + (4 * cols + 1) ≤ length text.now) × (c + cols ≤ length elevations.old) }
-    ensures { LineRead text.now cols start.at c elevations.old elevations.new result }
+fn read_line(start: Cursor, text: &[u8], line: &mut [i16]) -> Cursor
+    requires { start.at + (4 * length line.old + 1) ≤ length text.now }
+    ensures place { result.at ≡ start.at + (4 * length line.old + 1) }
+    ensures stored { line.new ≡ elevations_from text.now start.at (length line.old) }
 {
     let mut next = start;
-    let mut q = 0;
-    while q < cols {
-        let number = next.number(text);
-        elevations[c + q] = cursor::elevation_of(number.value);
-        let past = number.next;
+    for elevation in line.iter_mut() {
+        let (number, past) = next.number(text);
+        *elevation = cursor::elevation_of(number);
         next = past;
-        q += 1;
     }
     next.past_line_feed(text)
 }
@@ -31,14 +29,8 @@ pub fn read_lines(g: Grid, text: &[u8], elevations: &mut [i16])
     requires { (g ≡ text_grid text.now) × (length text.now ≡ text_length g) × (size g ≤ length elevations.old) }
     ensures { elevations.new ≡ text_sheet text.now ++ drop (size g) elevations.old }
 {
-    let rows = g.rows;
-    let cols = g.cols;
     let mut next = Cursor { at: 9 };
-    let mut c = 0;
-    let mut r = 0;
-    while r < rows {
-        next = read_line(next, text, cols, elevations, c);
-        c += cols;
-        r += 1;
+    for r in 0..g.rows {
+        next = read_line(next, text, &mut elevations[r * g.cols..(r + 1) * g.cols]);
     }
 }

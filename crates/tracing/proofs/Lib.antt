@@ -1,3 +1,3 @@
--- What the tests and stores of the calls are, by the definitions; from the answers to the questions to the promises.
+-- Which crew is the first that is lost; from the answers to the questions to the promises.
 pub mod Traces
 pub mod Promise

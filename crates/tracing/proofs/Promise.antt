@@ -1,29 +1,27 @@
 -- From the answers to the questions to the promises of `hand_in` and `run`: w₀ and w₁ are the work buffer, s the state at entry.
 use mathlib.Core.Path.{◌≡◌, refl, sym, ◌∙◌, ap, subst}
-use mathlib.Core.Bool.{Bool, true, false, not}
+use mathlib.Core.Bool.{not}
 use mathlib.Core.List.{List, [], ◌∷◌}
-use Prim.Native.Nat.{ℕ, ◌≤◌, ◌<◌}
+use Prim.Native.Nat.{ℕ, ◌<◌}
 use native.Mathlib.Omega.{arith}
-use lib.Dec.{eqb, ltb}
+use lib.Dec.{ltb}
 use lib.ListN.{length}
-use borrow.Author.Tests.{eq-eqb, ne_eqb, ltb-true}
+use borrow.Author.Tests.{eq-eqb, ne_eqb}
 use Rattle.grid.specs.declared.Grid.{Grid}
 use Rattle.grid.specs.declared.Answer.{Answer}
 use Rattle.grid.specs.Sheet.{size}
 use Rattle.grid.specs.Routes.{has_code, first_bad_code, first_endless}
-use Rattle.grid.specs.Checks.{accepted, refusal, ask, ask_sheets, ask_work, ask_codes}
+use Rattle.grid.specs.Checks.{accepted, refusal, ask_sheets, ask_work, ask_codes}
 use Rattle.grid.specs.Crews.{has_trace, ask_trace, hand_in_check, handed_in, first_lost, ask_lost, run_check, turns}
 use Rattle.grid.specs.Promises.{result_of, WorkBuffer, HandInPromise, RunPromise}
 use Rattle.grid_laws.proofs.Tests.{cond_true, cond_false}
-use Rattle.grid_laws.proofs.Below.{first_≤}
 use Rattle.checks.proofs.Gate.{Gate, both, kept, passed, answered_no, answered_yes, is_accepted_lem}
 use Rattle.checks.proofs.Asked.{Sized, check_gate}
 use Rattle.checks.proofs.Questions.{codes_gate, Late, number_late, yes_late, ask_late}
 use Rattle.receivers.proofs.Codes.{all_codes}
 use Rattle.code_check.specs.Asked.{CodesAsked}
 use Rattle.crew_laws.specs.Standing.{OnSheet, Standing}
-use Rattle.crew_laws.proofs.Changes.{trace_gate}
-use Rattle.crew_laws.proofs.Keeps.{is_lost, standing_of}
+use Rattle.crew_laws.proofs.Keeps.{standing_of}
 
 -- ---- 21 to 23 are asked when the work buffer may be written
 trace_late : (codes : List ℕ) (crew cell : ℕ) (s : List ℕ) → Late (ask_trace codes crew cell s accepted)
@@ -79,11 +77,11 @@ module _ (g : Grid) (codes w₀ w₁ : List ℕ) (r : Answer) (asked : CodesAske
           work = late_work a.number (subst Late (sym e) (trace_late codes crew cell s));
         }
 
-    -- ---- a run: `lost` is the first crew that is lost, or 32
-    module _ (n : ℕ) (s : List ℕ) (lost : ℕ) (is : lost ≡ first_lost codes s) where
-      pub lost_run : lost < 32 → RunPromise g codes n s s w₀ w₁ (refusal 23 lost)
+    -- ---- a run: a crew that is lost, the first, or none
+    module _ (n : ℕ) (s : List ℕ) where
+      pub lost_run : (lost : ℕ) → lost < 32 → lost ≡ first_lost codes s → RunPromise g codes n s s w₀ w₁ (refusal 23 lost)
       unfolding run_check ask_lost
-      lost_run h =
+      lost_run lost h is =
           record {
             answer =
                 ap (refusal 23) is
@@ -94,11 +92,7 @@ module _ (g : Grid) (codes w₀ w₁ : List ℕ) (r : Answer) (asked : CodesAske
             work = late_work 23 (number_late 23 tt);
           }
 
-      module _ (none : 32 ≤ lost) where
-        nobody : first_lost codes s ≡ 32
-        unfolding first_lost
-        nobody = let h = first_≤ 32 (is_lost codes s) in omega arith
-
+      module _ (nobody : first_lost codes s ≡ 32) where
         pub standing : Standing codes s
         standing = standing_of codes s nobody
 
@@ -113,8 +107,3 @@ module _ (g : Grid) (codes w₀ w₁ : List ℕ) (r : Answer) (asked : CodesAske
               state = q ∙ sym (cond_true (turns g codes n s) s (eq-eqb r.number 0 yes));
               work = asked.work;
             }
-
--- what a yes to a hand-in says of the crew
-pub crew_small : (codes : List ℕ) (crew cell : ℕ) (s : List ℕ) (a : Answer) → a ≡ ask_trace codes crew cell s accepted → a.number ≡ 0 →
-    crew < 32
-crew_small codes crew cell s a e z = ltb-true crew 32 (passed (trace_gate codes s crew cell) e z).fact.0

@@ -1,2 +1,2 @@
--- What the stores of a turn are, by the definitions.
+-- A cell's code, and one turn after another.
 pub mod Stepping

@@ -20,8 +20,7 @@ fn descend(n: usize, tail: &[u32], start: usize) -> usize
     ensures { Descent n tail.now start result }
 {
     let mut cell = start;
-    let mut steps = 0;
-    while steps <= n {
+    for _ in 0..=n {
         let mark = tail[cell] as usize;
         if mark > n {
             return mark;
@@ -30,7 +29,6 @@ fn descend(n: usize, tail: &[u32], start: usize) -> usize
             return n + 2 + cell;
         }
         cell = mark;
-        steps += 1;
     }
     0
 }
@@ -102,10 +100,8 @@ fn lift_all(n: usize, tail: &mut [u32])
     requires marks { Marks n (take n tail.old) }
     ensures { WalkedTo n 0 tail.old tail.new }
 {
-    let mut left = n;
-    while left > 0 {
-        left -= 1;
-        lift(n, tail, left);
+    for cell in (0..n).rev() {
+        lift(n, tail, cell);
     }
 }
 
@@ -115,14 +111,12 @@ fn walk_on(n: usize, tail: &mut [u32]) -> usize
     requires n_in_bounds { n ≤ length tail.old }
     ensures { WalkedOn n tail.old tail.new result }
 {
-    let mut start = 0;
-    while start < n {
+    for start in 0..n {
         if !walk_from(n, tail, start) {
             return start;
         }
-        start += 1;
     }
-    start
+    n
 }
 
 // The last cell of every route, or the first cell whose route does not end.

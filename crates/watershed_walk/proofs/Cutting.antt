@@ -1,5 +1,5 @@
 -- Cutting a list of receivers at starts, place by place; what the walk then finds are the watersheds.
-use mathlib.Core.Path.{◌≡◌, refl, sym, ◌∙◌, ap, subst}
+use mathlib.Core.Path.{◌≡◌, sym, ◌∙◌, ap, subst}
 use mathlib.Core.Bool.{true, cond}
 use mathlib.Core.List.{List, ◌++◌}
 use Prim.Native.Nat.{ℕ, ◌+◌, ◌-◌, ◌≤◌, ◌<◌}
@@ -39,9 +39,6 @@ pub record CutTo (n : ℕ) (starts : List ℕ) (i : ℕ) (t₀ t : List ℕ) : T
   pub after : (k : ℕ) → i ≤ k → get_or t k 0 ≡ get_or t₀ k 0
 
 module _ (n : ℕ) (starts t₀ : List ℕ) where
-  pub cut_to_none : CutTo n starts 0 t₀ t₀
-  cut_to_none = record { same_length = refl; done = λ c h. let z : ⊥ = omega arith in absurd z; after = λ k h. refl }
-
   pub cut_to_more : (i : ℕ) (t : List ℕ) → CutTo n starts i t₀ t → i < length t₀ →
       CutTo n starts (i + 1) t₀ (set t i (cond (ltb 0 (get_or starts i 0)) n (get_or t i 0)))
   cut_to_more i t C h =

@@ -10,11 +10,13 @@ ghost use Rattle.grid.specs.Sheet.{size};
 ghost use Rattle.grid.specs.Routes.{first_endless, first_bad_start, watersheds as watersheds'};
 ghost use Rattle.grid.specs.Checks.{accepted, ask_codes, ask_starts};
 ghost use Rattle.grid.specs.Promises.{result_of};
-ghost use Rattle.route_laws.specs.Receivers.{AllCodes};
 ghost use Rattle.route_laws.specs.Starts.{cut, start_of};
+ghost use Rattle.refusals.specs.Answers.{answer_of};
 ghost use Rattle.checks.specs.Sizes.{Fits};
 
-use grid::{Answer, Grid};
+use grid::Grid;
+use receivers::CodeSheet;
+use refusals::{Question, Refusal};
 
 // Makes a start the end of its route.
 fn cut_at(n: usize, starts: &[u32], tail: &mut [u32], cell: usize)
@@ -32,20 +34,20 @@ fn cut_at(n: usize, starts: &[u32], tail: &mut [u32], cell: usize)
 }
 
 // Makes every start the end of its route.
+#[tactic(auto, using(crate::proofs::Cutting::cut_to_more))]
 fn cut_starts(n: usize, starts: &[u32], tail: &mut [u32])
     requires n_bound { n < 2 ^ 24 }
     requires starts_len { length starts.now ≡ n }
     requires n_in_bounds { n ≤ length tail.old }
     ensures { tail.new ≡ cut n starts.now (take n tail.old) ++ drop n tail.old }
 {
-    let mut cell = 0;
-    while cell < n {
+    for cell in 0..n {
         cut_at(n, starts, tail, cell);
-        cell += 1;
     }
 }
 
 // The start at the cell that the walk found, 0 where there is no route.
+#[tactic(auto, using(crate::proofs::Cutting::start_zero, crate::proofs::Cutting::start_at))]
 fn start_of(n: usize, starts: &[u32], found: u32) -> u32
     requires n_bound { n < 2 ^ 24 }
     requires starts_len { length starts.now ≡ n }
@@ -54,10 +56,7 @@ fn start_of(n: usize, starts: &[u32], found: u32) -> u32
     ensures { result ≡ start_of starts.now (found - (n + 1)) }
 {
     let mark = found as usize - (n + 1);
-    if mark == 0 {
-        return 0;
-    }
-    starts[mark - 1]
+    if mark == 0 { 0 } else { starts[mark - 1] }
 }
 
 // The watersheds of what the walk found.
@@ -70,27 +69,22 @@ fn read_watersheds(n: usize, starts: &[u32], tail: &[u32], watersheds: &mut [u32
     ensures { watersheds.new
         ≡ table n (λ (c : ℕ). start_of starts.now (get_or tail.now c 0 - (n + 1))) }
 {
-    let mut c = 0;
-    while c < n {
+    for c in 0..n {
         watersheds[c] = start_of(n, starts, tail[c]);
-        c += 1;
     }
 }
 
 // The watersheds, where 11, 12 and 13 are answered by yes.
-fn watersheds_in(g: Grid, codes: &[u8], starts: &[u32], watersheds: &mut [u32], tail: &mut [u32])
-    requires fits { Fits g }
-    requires codes_len { length codes.now ≡ size g }
-    requires starts_len { length starts.now ≡ size g }
-    requires watersheds_len { length watersheds.old ≡ size g }
-    requires g_in_bounds { size g ≤ length tail.old }
-    requires all_codes { AllCodes codes.now }
-    requires codes_value { first_endless g codes.now ≡ size g }
-    requires starts_value { first_bad_start g codes.now starts.now ≡ size g }
-    ensures { watersheds.new ≡ watersheds' g codes.now starts.now }
+fn watersheds_in(codes: &CodeSheet, starts: &[u32], watersheds: &mut [u32], tail: &mut [u32])
+    requires starts_len { length starts.now ≡ size codes.now.grid }
+    requires watersheds_len { length watersheds.old ≡ size codes.now.grid }
+    requires codes_in_bounds { size codes.now.grid ≤ length tail.old }
+    requires codes_value { first_endless codes.now.grid codes.now.codes.now ≡ size codes.now.grid }
+    requires starts_value { first_bad_start codes.now.grid codes.now.codes.now starts.now ≡ size codes.now.grid }
+    ensures { watersheds.new ≡ watersheds' codes.now.grid codes.now.codes.now starts.now }
 {
-    let n = g.rows * g.cols;
-    receivers::receivers_from(g, codes, tail);
+    let n = codes.grid.rows * codes.grid.cols;
+    receivers::receivers_from(codes, tail);
     cut_starts(n, starts, tail);
     walk::walk(n, tail);
     read_watersheds(n, starts, tail, watersheds);
@@ -100,69 +94,53 @@ fn watersheds_in(g: Grid, codes: &[u8], starts: &[u32], watersheds: &mut [u32], 
 fn is_stray(code: u8, start: u32) -> bool
     ensures { result ≡ (eqb code 0 && ltb 0 start) }
 {
-    if code != 0 {
-        return false;
-    }
-    0 < start
+    code == 0 && start > 0
 }
 
 // "13. Is the start 0 wherever the code is 0? Place: first cell."
+#[tactic(auto, using(crate::proofs::Asking::first_stray_is))]
 fn first_bad_start(g: Grid, codes: &[u8], starts: &[u32]) -> usize
     requires codes_len { length codes.now ≡ size g }
     requires starts_len { length starts.now ≡ size g }
     ensures { result ≡ first_bad_start g codes.now starts.now }
 {
-    let mut c = 0;
-    while c < codes.len() {
-        if is_stray(codes[c], starts[c]) {
+    for (c, code) in codes.iter().enumerate() {
+        if is_stray(*code, starts[c]) {
             return c;
         }
-        c += 1;
     }
-    c
+    codes.len()
 }
 
 // Questions 13 and 24.
-fn starts_check(g: Grid, codes: &[u8], starts: &[u32], tail: &mut [u32]) -> Answer
+fn starts_check(g: Grid, codes: &[u8], starts: &[u32], tail: &mut [u32]) -> Result<(), Refusal<u32>>
     requires fits { Fits g }
     requires codes_len { length codes.now ≡ size g }
     requires starts_len { length starts.now ≡ size g }
     requires g_in_bounds { size g + size g ≤ length tail.old }
-    ensures { result ≡ ask_starts g codes.now starts.now accepted }
+    ensures { answer_of result ≡ ask_starts g codes.now starts.now accepted }
 {
     let given = codes.len();
     let stray = first_bad_start(g, codes, starts);
     if stray < given {
-        return Answer {
-            number: 13,
-            place: stray as u32,
-        };
+        return Err(Question::Starts.at(stray as u32));
     }
     let repeat = repeats::first_repeat(g, starts, tail);
     if repeat < given {
-        return Answer {
-            number: 24,
-            place: repeat as u32,
-        };
+        return Err(Question::StartLabels.at(repeat as u32));
     }
-    Answer {
-        number: 0,
-        place: 0,
-    }
+    Ok(())
 }
 
 // Questions 11 to 13 and 24.
-fn routes_check(g: Grid, codes: &[u8], starts: &[u32], tail: &mut [u32]) -> Answer
+fn routes_check(g: Grid, codes: &[u8], starts: &[u32], tail: &mut [u32]) -> Result<(), Refusal<u32>>
     requires fits { Fits g }
     requires codes_len { length codes.now ≡ size g }
     requires starts_len { length starts.now ≡ size g }
     requires g_in_bounds { size g + size g ≤ length tail.old }
-    ensures { result ≡ ask_codes g codes.now (ask_starts g codes.now starts.now accepted) }
+    ensures { answer_of result ≡ ask_codes g codes.now (ask_starts g codes.now starts.now accepted) }
 {
-    let answer = code_check::codes_check(g, codes, tail);
-    if answer.number != 0 {
-        return answer;
-    }
+    code_check::codes_check(g, codes, tail)?;
     starts_check(g, codes, starts, tail)
 }
 
@@ -173,20 +151,18 @@ pub fn watersheds_of(
     starts: &[u32],
     watersheds: &mut [u32],
     tail: &mut [u32],
-) -> Answer
+) -> Result<(), Refusal<u32>>
     requires fits { Fits g }
     requires codes_len { length codes.now ≡ size g }
     requires starts_len { length starts.now ≡ size g }
     requires watersheds_len { length watersheds.old ≡ size g }
     requires g_in_bounds { size g + size g ≤ length tail.old }
-    ensures value { result ≡ ask_codes g codes.now (ask_starts g codes.now starts.now accepted) }
+    ensures value { answer_of result ≡ ask_codes g codes.now (ask_starts g codes.now starts.now accepted) }
     ensures watersheds_after { watersheds.new
-        ≡ result_of result (watersheds' g codes.now starts.now) watersheds.old }
+        ≡ result_of (answer_of result) (watersheds' g codes.now starts.now) watersheds.old }
 {
-    let answer = routes_check(g, codes, starts, tail);
-    if answer.number != 0 {
-        return answer;
-    }
-    watersheds_in(g, codes, starts, watersheds, tail);
-    answer
+    routes_check(g, codes, starts, tail)?;
+    let sheet = CodeSheet { grid: g, codes };
+    watersheds_in(&sheet, starts, watersheds, tail);
+    Ok(())
 }

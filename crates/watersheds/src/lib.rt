@@ -8,9 +8,11 @@ ghost use Rattle.grid.specs.Sheet.{size};
 ghost use Rattle.grid.specs.Routes.{watersheds as watersheds'};
 ghost use Rattle.grid.specs.Checks.{accepted, ask_codes, ask_starts};
 ghost use Rattle.grid.specs.Promises.{result_of, WatershedsPromise};
+ghost use Rattle.refusals.specs.Answers.{answer_of};
 ghost use Rattle.checks.specs.Sizes.{Fits};
 
-use grid::{Answer, Grid};
+use grid::Grid;
+use refusals::Refusal;
 
 // Questions 11 to 13 and 24, and after a yes the watersheds.
 fn watersheds_into(
@@ -19,15 +21,15 @@ fn watersheds_into(
     starts: &[u32],
     watersheds: &mut [u32],
     work: &mut [u32],
-) -> Answer
+) -> Result<(), Refusal<u32>>
     requires fits { Fits g }
     requires codes_len { length codes.now ≡ size g }
     requires starts_len { length starts.now ≡ size g }
     requires watersheds_len { length watersheds.old ≡ size g }
     requires g_in_bounds { 4 * size g ≤ length work.old }
-    ensures value { result ≡ ask_codes g codes.now (ask_starts g codes.now starts.now accepted) }
+    ensures value { answer_of result ≡ ask_codes g codes.now (ask_starts g codes.now starts.now accepted) }
     ensures watersheds_after { watersheds.new
-        ≡ result_of result (watersheds' g codes.now starts.now) watersheds.old }
+        ≡ result_of (answer_of result) (watersheds' g codes.now starts.now) watersheds.old }
 {
     let half = work.len() / 2;
     watershed_walk::watersheds_of(g, codes, starts, watersheds, &mut work[half..])
@@ -40,17 +42,14 @@ pub fn watersheds(
     starts: &[u32],
     watersheds: &mut [u32],
     work: &mut [u32],
-) -> Answer
+) -> Result<(), Refusal<u32>>
     ensures { WatershedsPromise g codes.now starts.now watersheds.old watersheds.new
-        work.old work.new result }
+        work.old work.new (answer_of result) }
 {
     let given = codes.len();
     let marked = starts.len();
     let wanted = watersheds.len();
     let room = work.len();
-    let answer = checks::check(g, given, marked, wanted, wanted, wanted, wanted, room);
-    if answer.number != 0 {
-        return answer;
-    }
+    checks::check(g, given, marked, wanted, wanted, wanted, wanted, room)?;
     watersheds_into(g, codes, starts, watersheds, work)
 }

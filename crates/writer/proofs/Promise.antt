@@ -84,8 +84,8 @@ module _ (g : Grid) (given room : ℕ) where
 -- ---- the promise
 
 module _ (g : Grid) (e : List ℤ) (text₀ : List ℕ) (answer : Answer) (is : answer ≡ write_check g (length e) (length text₀)) where
-  pub refused : (answer.number ≡ 0 → ⊥) → WritePromise g e text₀ text₀ record { number = answer.number; place = answer.place; count = 0 }
-  refused n =
+  pub beside_no : (answer.number ≡ 0 → ⊥) → WritePromise g e text₀ text₀ record { number = answer.number; place = answer.place; count = 0 }
+  beside_no n =
       record {
         answer = is;
         count = kept n _;

@@ -1,5 +1,5 @@
 // The call `write` (document 02, Wish 5): "a writer that gives the frames of an elevation sheet". Questions 4, 5, 6, 7 and 8 are asked in
-// that order; "A no changes no result buffer", and the length reported beside it is 0. After a yes to all of them `frames` stores the
+// that order; "A no changes no result buffer". After a yes to all of them `frames` stores the
 // text. The promise has it that what is stored reads back: the law about texts (`writing_laws`) asks for elevations of 16 bits, which the
 // printing has seen each of them to be.
 #![tactic(auto)]
@@ -10,8 +10,10 @@ ghost use Rattle.grid.specs.Checks.{refusal, accepted, ask, ask_sheets};
 ghost use Rattle.grid.specs.Frames.{text_length};
 ghost use Rattle.grid.specs.Writing.{write_check};
 ghost use Rattle.grid.specs.Promises.{WritePromise};
+ghost use Rattle.refusals.specs.Answers.{answer_of, counted_of};
 
-use grid::{Answer, Counted, Grid};
+use grid::Grid;
+use refusals::{Question, Refusal};
 
 // "a sheet above 2,304 cells gets 4". It is asked before 5 and 6, so rows × columns may not fit a word: a quotient is compared instead.
 fn few_cells(g: Grid) -> bool
@@ -36,51 +38,31 @@ fn text_length(g: Grid) -> usize
 }
 
 // 5 to 8. `inputs` asks 7 of two sheets: the one is named twice.
-fn check_sizes(g: Grid, given: usize, room: usize) -> Answer
-    ensures { result ≡ ask_sheets g (given ∷ []) [] (ask (leb (text_length g) room) (refusal 8 0) accepted) }
+fn check_sizes(g: Grid, given: usize, room: usize) -> Result<(), Refusal<u32>>
+    ensures { answer_of result ≡ ask_sheets g (given ∷ []) [] (ask (leb (text_length g) room) (refusal 8 0) accepted) }
 {
-    let answer = checks::inputs(g, given, given);
-    if answer.number != 0 {
-        return answer;
-    }
+    checks::inputs(g, given, given)?;
     if room < text_length(g) {
-        return Answer {
-            number: 8,
-            place: 0,
-        };
+        return Err(Question::Results.into());
     }
-    answer
+    Ok(())
 }
 
 // 4 to 8
-fn check(g: Grid, given: usize, room: usize) -> Answer
-    ensures { result ≡ write_check g given room }
+fn check(g: Grid, given: usize, room: usize) -> Result<(), Refusal<u32>>
+    ensures { answer_of result ≡ write_check g given room }
 {
     if !few_cells(g) {
-        return Answer {
-            number: 4,
-            place: 0,
-        };
+        return Err(Question::TextCells.into());
     }
     check_sizes(g, given, room)
 }
 
 // Rows, columns and elevations to a text.
-pub fn write(g: Grid, elevations: &[i16], text: &mut [u8]) -> Counted
-    ensures { WritePromise g elevations.now text.old text.new result }
+pub fn write(g: Grid, elevations: &[i16], text: &mut [u8]) -> Result<u32, Refusal<u32>>
+    ensures { WritePromise g elevations.now text.old text.new (counted_of result) }
 {
-    let answer = check(g, elevations.len(), text.len());
-    if answer.number != 0 {
-        return Counted {
-            number: answer.number,
-            place: answer.place,
-            count: 0,
-        };
-    }
+    check(g, elevations.len(), text.len())?;
     let length = frames::write_elevations(g, elevations, text);
-    Counted {
-        number: 0,
-        place: 0,
-        count: length as u32,
-    }
+    Ok(length as u32)
 }

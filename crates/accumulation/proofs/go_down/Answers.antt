@@ -32,8 +32,5 @@ loop-c-preserved c =
     c.loop-c-test.true
     c.pass-c.ensures.tail_after c.pass-c.ensures.value
 
-pub shape_of-tail : goal.shape_of-tail
-shape_of-tail c = c.loop-c.invariant.between.kept.same_length
-
 pub returns : goal.returns
 returns c = down_ends _ _ _ _ _ _ c.loop-c.invariant c.loop-c-test.false

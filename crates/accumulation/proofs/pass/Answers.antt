@@ -1,38 +1,22 @@
 -- Two stores, or one where the route ends; that the receiver waits for this cell leaves room for the difference and the sum.
-use native.Mathlib.Omega.{arith}
-use lib.ListN.{length-set}
-use Rattle.accumulation.proofs.Walk.{closes, hands, goes_on, stops, word_awaits, word_waits}
+use mathlib.Core.Path.{refl}
+use Rattle.accumulation.proofs.Walk.{closes, hands, goes_on, stops, word_awaits}
 use Rattle.accumulation.proofs.pass.Goals as goal
 
 pub returns-then-next-n : goal.returns-then-next-n
 returns-then-next-n c =
-    let the_all = closes _ _ _ _ c.wide-next.ensures c.if-next-n.true in
+    let the_all = closes _ _ _ _ refl c.if-next-n.true in
     record {
       tail_after = the_all.0;
       value = the_all.1;
     }
 
 pub overflow_sub-word : goal.overflow_sub-word
-overflow_sub-word c = word_awaits _ _ _ _ c.wide-next.ensures c.requires.ready c.if-next-n.false
-
-pub overflow_add-word-2 : goal.overflow_add-word-2
-overflow_add-word-2 c =
-    let h = word_waits _ _ _ _ c.wide-next.ensures c.requires.ready c.if-next-n.false in
-    let q = c.requires.ready.none_awaited in
-    omega arith
-
-pub overflow_add-word-3 : goal.overflow_add-word-3
-overflow_add-word-3 c =
-    let h = word_waits _ _ _ _ c.wide-next.ensures c.requires.ready c.if-next-n.false in
-    let q = c.requires.ready.none_awaited in
-    omega arith
-
-pub bounds-tail-n-4 : goal.bounds-tail-n-4
-bounds-tail-n-4 c = simp length-set (omega arith)
+overflow_sub-word c = word_awaits _ _ _ _ refl c.requires.ready c.if-next-n.false
 
 pub returns-then-word-lt-UNIT : goal.returns-then-word-lt-UNIT
 returns-then-word-lt-UNIT c =
-    let e = c.wide-next.ensures in
+    let e = refl in
     let h = c.if-next-n.false in
     record {
       tail_after = hands _ _ _ _ e h;
@@ -41,7 +25,7 @@ returns-then-word-lt-UNIT c =
 
 pub returns : goal.returns
 returns c =
-    let e = c.wide-next.ensures in
+    let e = refl in
     let h = c.if-next-n.false in
     record {
       tail_after = hands _ _ _ _ e h;

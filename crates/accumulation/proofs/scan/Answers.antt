@@ -1,5 +1,3 @@
--- Every cell below i is settled, and a walk keeps it so.
-use Prim.Native.Nat.{◌-◌}
 use native.Mathlib.Omega.{arith}
 use Rattle.accumulation.proofs.Stores.{kept_roomy}
 use Rattle.accumulation.proofs.Walk.{scan_starts, scan_turn, scan_ends, again_between}
@@ -12,24 +10,14 @@ pub visit-left-requires : goal.visit-left-requires
 visit-left-requires c =
     let S = c.loop-i.invariant in
     record {
-      roomy = kept_roomy _ _ _ S.1.kept c.requires.roomy;
-      i_lt_n = c.loop-i-test.true;
-      between = again_between _ _ _ _ S.1;
+      roomy = kept_roomy _ _ _ S.0.kept c.requires.roomy;
+      i_lt_n = omega arith;
+      between = again_between _ _ _ _ S.0;
     }
-
-pub overflow_add-i : goal.overflow_add-i
-overflow_add-i c = let l = c.loop-i-test.true in omega arith
-
-pub loop-i-smaller : goal.loop-i-smaller
-loop-i-smaller c = let l = c.loop-i-test.true in omega arith
 
 pub loop-i-preserved : goal.loop-i-preserved
 loop-i-preserved c =
-    scan_turn _ _ _ _ _ _ _ c.loop-i.invariant c.loop-i-test.true
-    c.visit-left.ensures
-
-pub shape_of-tail : goal.shape_of-tail
-shape_of-tail c = c.loop-i.invariant.1.kept.same_length
+    scan_turn _ _ _ _ _ _ _ c.loop-i.invariant (omega arith) c.visit-left.ensures
 
 pub returns : goal.returns
-returns c = scan_ends _ _ _ _ _ c.loop-i.invariant c.loop-i-test.false
+returns c = scan_ends _ _ _ _ _ c.loop-i.invariant (omega arith)

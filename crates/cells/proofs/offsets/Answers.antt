@@ -1,6 +1,5 @@
 -- Position by position, as the table of steps has them.
 use mathlib.Core.Path.{refl}
-use Prim.Native.Nat.{◌-◌}
 use native.Mathlib.Omega.{arith}
 use Rattle.cells.specs.Steps.{right_of}
 use Rattle.cells.proofs.Steps.{offsets_none, offsets_more, offset_small}
@@ -26,18 +25,6 @@ overflow_add-found c =
     let a = (offset_small c.args.cols c.loop-p.p c.row_step.result c.col_step.result
     c.requires c.loop-p-test.true c.row_step.ensures c.col_step.ensures).0 in
     omega arith
-
-pub offset_bounds-found-p : goal.offset_bounds-found-p
-offset_bounds-found-p c = let h = c.loop-p-test.true in omega arith
-
-pub bounds-found-p : goal.bounds-found-p
-bounds-found-p c = c.loop-p-test.true
-
-pub overflow_add-p : goal.overflow_add-p
-overflow_add-p c = let h = c.loop-p-test.true in omega arith
-
-pub loop-p-smaller : goal.loop-p-smaller
-loop-p-smaller c = let h = c.loop-p-test.true in omega arith
 
 pub loop-p-preserved : goal.loop-p-preserved
 loop-p-preserved c =

@@ -1,10 +1,6 @@
 -- Position by position, as the table of steps has them.
-use Prim.Native.Nat.{◌-◌}
 use Rattle.cells.proofs.Steps.{OffsetsTo}
 use Rattle.cells.proofs.offsets.Given as goal
 
 abbrev pub invariant-loop-p : goal.invariant-loop-p
 invariant-loop-p l = OffsetsTo l.cols l.found l.p
-
-abbrev pub decreases-loop-p : goal.decreases-loop-p
-decreases-loop-p l = 8 - l.p

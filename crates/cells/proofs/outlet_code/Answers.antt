@@ -1,6 +1,6 @@
 use mathlib.Core.Path.{◌≡◌, sym, ◌∙◌, ap, subst}
 use mathlib.Core.Bool.{true, false}
-use Prim.Native.Nat.{ℕ, ◌-◌, ◌<◌}
+use Prim.Native.Nat.{ℕ, ◌<◌}
 use native.Mathlib.Omega.{arith}
 use lib.ListN.{get_or}
 use borrow.Author.Count.{below_more}
@@ -9,9 +9,6 @@ use Rattle.grid.specs.Outlet.{leaves_at, outlet_order}
 use Rattle.grid_laws.proofs.Outlets.{order_small}
 use Rattle.cells.proofs.Codes.{StaysTo, outlet_found, no_outlet}
 use Rattle.cells.proofs.outlet_code.Goals as goal
-
-pub loop-i-init : goal.loop-i-init
-loop-i-init c = (omega arith, λ j h. let z : ⊥ = omega arith in absurd z)
 
 pub in_order-p-requires : goal.in_order-p-requires
 in_order-p-requires c = c.loop-i-test.true
@@ -37,28 +34,18 @@ returns-then-leaves c =
     let here : leaves_at c.args.g e c.args.cell (get_or outlet_order c.loop-i.i 0) ≡ true =
     subst (λ (p : ℕ). leaves_at c.args.g e c.args.cell p ≡ true) c.in_order-p.ensures (sym c.leaves.ensures ∙ c.if-leaves.true) in
     λ d. c.code.ensures ∙ ap code_at c.in_order-p.ensures
-    ∙ outlet_found c.args.g e c.args.cell c.loop-i.i c.loop-i-test.true c.loop-i.invariant.1 here d
-
-pub overflow_add-i : goal.overflow_add-i
-overflow_add-i c = omega arith
-
-pub loop-i-smaller : goal.loop-i-smaller
-loop-i-smaller c = omega arith
+    ∙ outlet_found c.args.g e c.args.cell c.loop-i.i c.loop-i-test.true c.loop-i.invariant here d
 
 pub loop-i-preserved : goal.loop-i-preserved
 loop-i-preserved c =
     let e = c.args.elevations.now in
-    let h = c.loop-i-test.true in (
-      omega arith,
-      below_more (λ j. leaves_at c.args.g e c.args.cell (get_or outlet_order j 0) ≡ false) c.loop-i.i c.loop-i.invariant.1
-          (subst (λ (p : ℕ). leaves_at c.args.g e c.args.cell p ≡ false) c.in_order-p.ensures
-          (sym c.leaves.ensures ∙ c.if-leaves.false)),
-    )
+    below_more (λ j. leaves_at c.args.g e c.args.cell (get_or outlet_order j 0) ≡ false) c.loop-i.i c.loop-i.invariant
+    (subst (λ (p : ℕ). leaves_at c.args.g e c.args.cell p ≡ false) c.in_order-p.ensures
+    (sym c.leaves.ensures ∙ c.if-leaves.false))
 
 pub returns : goal.returns
 returns c =
-    let a = c.loop-i.invariant.0 in
     let b = c.loop-i-test.false in
     let q : c.loop-i.i ≡ 8 = omega arith in
     λ d. no_outlet c.args.g c.args.elevations.now c.args.cell
-    (subst (StaysTo c.args.g c.args.elevations.now c.args.cell) q c.loop-i.invariant.1)
+    (subst (StaysTo c.args.g c.args.elevations.now c.args.cell) q c.loop-i.invariant)

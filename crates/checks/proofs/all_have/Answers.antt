@@ -1,16 +1,10 @@
--- Each way out by its test.
-use borrow.Author.Tests.{eq-eqb, ne_eqb}
+use mathlib.Core.Path.{sym, ◌∙◌}
 use Rattle.grid.specs.Checks.{all_have}
+use Rattle.checks.proofs.Asked.{all_both, all_not_both}
 use Rattle.checks.proofs.all_have.Goals as goal
 
-pub returns-then-a-n : goal.returns-then-a-n
-unfolding all_have
-returns-then-a-n c = simp (ne_eqb _ _ c.if-a-n.true)
+pub returns-then-both_have : goal.returns-then-both_have
+returns-then-both_have c = c.both_have-then-both_have.ensures ∙ all_both _ _ _ _ (sym c.both_have.ensures ∙ c.if-both_have.true)
 
-pub returns-then-b-n : goal.returns-then-b-n
-unfolding all_have
-returns-then-b-n c = simp (eq-eqb _ _ c.if-a-n.false, ne_eqb _ _ c.if-b-n.true)
-
-pub returns : goal.returns
-unfolding all_have
-returns c = simp (eq-eqb _ _ c.if-a-n.false, eq-eqb _ _ c.if-b-n.false) c.both_have.ensures
+pub returns-else-both_have : goal.returns-else-both_have
+returns-else-both_have c = c.both_have.ensures ∙ all_not_both _ _ _ _ (sym c.both_have.ensures ∙ c.if-both_have.false)

@@ -1,4 +1,3 @@
--- Each way out by its test.
 use borrow.Author.Tests.{eq-eqb, ne_eqb}
 use Rattle.grid.specs.Checks.{all_have}
 use Rattle.checks.proofs.Asked.{and_all}
@@ -6,8 +5,8 @@ use Rattle.checks.proofs.both_have.Goals as goal
 
 pub returns-then-a-n : goal.returns-then-a-n
 unfolding all_have
-returns-then-a-n c = simp (ne_eqb _ _ c.if-a-n.true)
+returns-then-a-n c = simp (eq-eqb _ _ c.if-a-n.true, and_all)
 
-pub returns : goal.returns
+pub returns-else-a-n : goal.returns-else-a-n
 unfolding all_have
-returns c = simp (eq-eqb _ _ c.if-a-n.false, and_all)
+returns-else-a-n c = simp (ne_eqb _ _ c.if-a-n.false)

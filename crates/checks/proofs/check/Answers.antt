@@ -1,5 +1,7 @@
 -- 5 to 8, and then 9.
-use mathlib.Core.Path.{◌∙◌}
+use Rattle.std.proofs.lemmas.Result.{err_from_is_err_and}
+use Rattle.refusals.proofs.Answers.{is_no}
+use mathlib.Core.Path.{refl, ◌∙◌}
 use native.Mathlib.Omega.{arith}
 use Rattle.grid.specs.Checks.{accepted, refusal, ask_work}
 use Rattle.checks.proofs.Gate.{passed, answered_no, is_accepted_lem, next_no, next_yes}
@@ -7,24 +9,26 @@ use Rattle.checks.proofs.Asked.{says_no, says_yes, sheets_gate}
 use Rattle.std.proofs.lemmas.Bool.{not_from_false, not_from_true}
 use Rattle.checks.proofs.check.Goals as goal
 
-pub returns-then-answer-ne0 : goal.returns-then-answer-ne0
-returns-then-answer-ne0 c = answered_no (sheets_gate _ _ _) c.sheets-answer.ensures c.if-answer-ne0.true _
+pub returns-in_err-sheets : goal.returns-in_err-sheets
+returns-in_err-sheets c =
+    let p = err_from_is_err_and c.from_residual.result c.from_residual.ensures.1 in
+    rw (p.1, p.2) (answered_no (sheets_gate _ _ _) c.in_err-sheets.ensures (is_no c.in_err-sheets.field-0.0) _)
 
 pub has_room-requires : goal.has_room-requires
 has_room-requires c =
-    let f = (passed (sheets_gate _ _ _) c.sheets-answer.ensures c.if-answer-ne0.false).fact in
+    let f = (passed (sheets_gate _ _ _) c.in_ok-sheets.ensures refl).fact in
     let l = f.fits.cells in
     omega arith
 
 pub returns-then-not-has_room : goal.returns-then-not-has_room
 unfolding ask_work
 returns-then-not-has_room c =
-    next_no (sheets_gate _ _ _) c.sheets-answer.ensures c.if-answer-ne0.false (refusal 9 0) accepted
-    (says_no c.has_room.ensures (not_from_false _ c.if-not-has_room.true))
+    rw c.into.ensures (next_no (sheets_gate _ _ _) c.in_ok-sheets.ensures refl (refusal 9 0) accepted
+    (says_no c.has_room.ensures (not_from_false _ c.if-not-has_room.true)))
 
 pub returns : goal.returns
 unfolding ask_work
 returns c =
-    let k = c.sheets-answer.ensures in
-    is_accepted_lem (sheets_gate _ _ _) k c.if-answer-ne0.false
-    ∙ next_yes (sheets_gate _ _ _) k c.if-answer-ne0.false (refusal 9 0) accepted (says_yes c.has_room.ensures (not_from_true _ c.if-not-has_room.false))
+    let k = c.in_ok-sheets.ensures in
+    is_accepted_lem (sheets_gate _ _ _) k refl
+    ∙ next_yes (sheets_gate _ _ _) k refl (refusal 9 0) accepted (says_yes c.has_room.ensures (not_from_true _ c.if-not-has_room.false))

@@ -1,12 +1,11 @@
--- Each way out by its test.
 use borrow.Author.Tests.{lt-leb, le-leb}
 use Rattle.grid.specs.Checks.{in_range}
 use Rattle.checks.proofs.in_range.Goals as goal
 
-pub returns-then-k-lt1 : goal.returns-then-k-lt1
+pub returns-then-k-ge1 : goal.returns-then-k-ge1
 unfolding in_range
-returns-then-k-lt1 c = simp (lt-leb 1 _ c.if-k-lt1.true)
+returns-then-k-ge1 c = simp (le-leb 1 _ c.if-k-ge1.true)
 
-pub returns : goal.returns
+pub returns-else-k-ge1 : goal.returns-else-k-ge1
 unfolding in_range
-returns c = simp (le-leb 1 _ c.if-k-lt1.false)
+returns-else-k-ge1 c = simp (lt-leb 1 _ c.if-k-ge1.false)

@@ -1,34 +1,14 @@
--- The first i results are the counts of their words.
-use Prim.Native.Nat.{◌-◌}
-use mathlib.Core.Path.{refl}
 use native.Mathlib.Omega.{arith}
-use Rattle.counting.proofs.Copies.{copied_none, copied_more, copied_all}
+use Rattle.std.proofs.lemmas.List.Edits.{fill_by_more}
+use Rattle.grid_laws.proofs.Below.{is_table}
+use Rattle.count_laws.specs.Passing.{tally}
+use Rattle.accumulation.specs.Tail.{word_at}
 use Rattle.counting.proofs.copy_counts.Goals as goal
 
-pub loop-i-init : goal.loop-i-init
-loop-i-init c = (omega arith, copied_none _ _ _)
-
-pub overflow_add-counts : goal.overflow_add-counts
-overflow_add-counts c = omega arith
-
-pub bounds-tail-n : goal.bounds-tail-n
-bounds-tail-n c = omega arith
-
-pub overflow_add-i : goal.overflow_add-i
-overflow_add-i c = omega arith
-
-pub loop-i-smaller : goal.loop-i-smaller
-loop-i-smaller c = omega arith
-
 pub loop-i-preserved : goal.loop-i-preserved
+unfolding tally
 loop-i-preserved c =
-    let l = c.loop-i-test.true in (
-      omega arith,
-      copied_more c.args.n c.args.tail.now _ _ _ _ c.loop-i.invariant.1 (omega arith) refl,
-    )
-
-pub shape_of-counts : goal.shape_of-counts
-shape_of-counts c = c.loop-i.invariant.1.same_length
+    fill_by_more (λ k. tally (word_at c.args.n c.args.tail.now k)) c.loop-i.counts c.loop-i.i 0 (omega arith) c.loop-i.invariant
 
 pub returns : goal.returns
-returns c = copied_all _ _ _ _ _ c.requires.counts_len c.loop-i-test.false c.loop-i.invariant.1
+returns c = is_table _ (λ k. tally (word_at c.args.n c.args.tail.now k)) c.loop-i.counts 0 (omega arith) (λ k m. c.loop-i.invariant k (omega arith))

@@ -2,6 +2,9 @@
 -- lent on, so that what lies before it is as it was.
 use mathlib.Core.Path.{refl}
 use native.Mathlib.Omega.{arith}
+use Rattle.std.proofs.lemmas.Result.{err_from_is_err_and}
+use Rattle.refusals.proofs.Answers.{is_no}
+use Rattle.grid.specs.Checks.{accepted}
 use Rattle.grid.specs.Sheet.{size}
 use Rattle.receivers.proofs.Codes.{all_codes}
 use Rattle.checks.proofs.FromCodes.{refused_promise, sizes, bad_promise, none_bad, endless_promise, made_promise}
@@ -10,20 +13,21 @@ use Rattle.counts.proofs.Promise.{promise, given_back, first_half_kept}
 use borrow.Author.Rules.{rules}
 use Rattle.counts.proofs.counts.Goals as goal
 
-pub returns-then-answer-ne0 : goal.returns-then-answer-ne0
-returns-then-answer-ne0 c =
+pub returns-in_err-check : goal.returns-in_err-check
+returns-in_err-check c =
     let a = c.args in
-    promise (refused_promise a.g a.codes.now a.counts.now a.work.now c.check-answer.result c.check-answer.ensures c.if-answer-ne0.true) refl
+    let p = err_from_is_err_and c.from_residual.result c.from_residual.ensures.1 in
+    rw (p.1, p.2) (promise (refused_promise a.g a.codes.now a.counts.now a.work.now _ c.in_err-check.ensures (is_no c.in_err-check.field-0.0)) refl)
 
 pub first_bad_code-bad-requires : goal.first_bad_code-bad-requires
 first_bad_code-bad-requires c =
     let a = c.args in
-    (sizes a.g a.codes.now a.counts.now a.work.now c.check-answer.result c.check-answer.ensures c.if-answer-ne0.false).codes_long
+    (sizes a.g a.codes.now a.counts.now a.work.now accepted c.in_ok-check.ensures refl).codes_long
 
-pub overflow_cast-result : goal.overflow_cast-result
-overflow_cast-result c =
+pub overflow_cast-bad : goal.overflow_cast-bad
+overflow_cast-bad c =
     let a = c.args in
-    let s = sizes a.g a.codes.now a.counts.now a.work.now c.check-answer.result c.check-answer.ensures c.if-answer-ne0.false in
+    let s = sizes a.g a.codes.now a.counts.now a.work.now accepted c.in_ok-check.ensures refl in
     let m = s.codes_long in
     let f = s.fits.cells in
     let h = c.if-bad-given.true in
@@ -32,27 +36,37 @@ overflow_cast-result c =
 pub returns-then-bad-given : goal.returns-then-bad-given
 returns-then-bad-given c =
     let a = c.args in
-    promise (bad_promise a.g a.codes.now a.counts.now a.work.now c.check-answer.result c.check-answer.ensures c.if-answer-ne0.false
-    c.first_bad_code-bad.result c.first_bad_code-bad.ensures c.if-bad-given.true) refl
+    rw c.at.ensures
+    (promise (bad_promise a.g a.codes.now a.counts.now a.work.now accepted c.in_ok-check.ensures refl
+    c.first_bad_code-bad.result c.first_bad_code-bad.ensures c.if-bad-given.true) refl)
+
+pub invariant_of-sheet : goal.invariant_of-sheet
+invariant_of-sheet c =
+    let a = c.args in
+    let s = sizes a.g a.codes.now a.counts.now a.work.now accepted c.in_ok-check.ensures refl in
+    let e = none_bad a.g a.codes.now a.counts.now a.work.now accepted c.in_ok-check.ensures refl c.first_bad_code-bad.result
+    c.first_bad_code-bad.ensures c.if-bad-given.false in
+    let f = s.fits.cells in
+    record {
+      size_bound = omega arith;
+      rows_bound = s.fits.rows_low;
+      codes_len = s.codes_long;
+      all_codes = all_codes a.g a.codes.now s.codes_long e;
+    }
 
 pub counts_into-first-requires : goal.counts_into-first-requires
 counts_into-first-requires c =
     let a = c.args in
-    let s = sizes a.g a.codes.now a.counts.now a.work.now c.check-answer.result c.check-answer.ensures c.if-answer-ne0.false in
-    let e = none_bad a.g a.codes.now a.counts.now a.work.now c.check-answer.result c.check-answer.ensures c.if-answer-ne0.false c.first_bad_code-bad.result
-    c.first_bad_code-bad.ensures c.if-bad-given.false in
+    let s = sizes a.g a.codes.now a.counts.now a.work.now accepted c.in_ok-check.ensures refl in
     record {
-      fits = s.fits;
-      codes_len = s.codes_long;
       counts_len = s.result_long;
-      g_in_bounds = tail_room (size a.g) a.work.now s.room;
-      all_codes = all_codes a.g a.codes.now s.codes_long e;
+      codes_in_bounds = tail_room (size a.g) a.work.now s.room;
     }
 
-pub overflow_cast-result-then-first-given : goal.overflow_cast-result-then-first-given
-overflow_cast-result-then-first-given c =
+pub overflow_cast-first : goal.overflow_cast-first
+overflow_cast-first c =
     let a = c.args in
-    let s = sizes a.g a.codes.now a.counts.now a.work.now c.check-answer.result c.check-answer.ensures c.if-answer-ne0.false in
+    let s = sizes a.g a.codes.now a.counts.now a.work.now accepted c.in_ok-check.ensures refl in
     let l = s.codes_long in
     let f = s.fits.cells in
     let h = c.if-first-given.true in
@@ -63,23 +77,24 @@ returns-then-first-given c =
     let a = c.args in
     let w = a.work.now in
     let t = c.counts_into-first.new.tail in
-    let e = none_bad a.g a.codes.now a.counts.now w c.check-answer.result c.check-answer.ensures c.if-answer-ne0.false c.first_bad_code-bad.result c.first_bad_code-bad.ensures
+    let e = none_bad a.g a.codes.now a.counts.now w accepted c.in_ok-check.ensures refl c.first_bad_code-bad.result c.first_bad_code-bad.ensures
     c.if-bad-given.false in
-    let h = (sizes a.g a.codes.now a.counts.now w c.check-answer.result c.check-answer.ensures c.if-answer-ne0.false).room in
-    promise
-    (endless_promise a.g a.codes.now a.counts.now w c.check-answer.result c.check-answer.ensures c.if-answer-ne0.false e c.counts_into-first.result c.counts_into-first.ensures.value
+    let h = (sizes a.g a.codes.now a.counts.now w accepted c.in_ok-check.ensures refl).room in
+    rw c.at-then-first-given.ensures
+    (promise
+    (endless_promise a.g a.codes.now a.counts.now w accepted c.in_ok-check.ensures refl e c.counts_into-first.result c.counts_into-first.ensures.value
     c.counts_into-first.new.counts (given_back w t) c.counts_into-first.ensures.counts_after ((search rules)) c.if-first-given.true)
-    (first_half_kept a.g w t h)
+    (first_half_kept a.g w t h))
 
 pub returns : goal.returns
 returns c =
     let a = c.args in
     let w = a.work.now in
     let t = c.counts_into-first.new.tail in
-    let e = none_bad a.g a.codes.now a.counts.now w c.check-answer.result c.check-answer.ensures c.if-answer-ne0.false c.first_bad_code-bad.result c.first_bad_code-bad.ensures
+    let e = none_bad a.g a.codes.now a.counts.now w accepted c.in_ok-check.ensures refl c.first_bad_code-bad.result c.first_bad_code-bad.ensures
     c.if-bad-given.false in
-    let h = (sizes a.g a.codes.now a.counts.now w c.check-answer.result c.check-answer.ensures c.if-answer-ne0.false).room in
+    let h = (sizes a.g a.codes.now a.counts.now w accepted c.in_ok-check.ensures refl).room in
     promise
-    (made_promise a.g a.codes.now a.counts.now w c.check-answer.result c.check-answer.ensures c.if-answer-ne0.false e c.counts_into-first.result c.counts_into-first.ensures.value
+    (made_promise a.g a.codes.now a.counts.now w accepted c.in_ok-check.ensures refl e c.counts_into-first.result c.counts_into-first.ensures.value
     c.counts_into-first.new.counts (given_back w t) c.counts_into-first.ensures.counts_after ((search rules)) c.if-first-given.false)
     (first_half_kept a.g w t h)

@@ -5,25 +5,13 @@ use Rattle.grid.specs.Sheet.{size}
 use Rattle.counting.proofs.Sheet.{ready_to_count, sheet_counts}
 use Rattle.counts.proofs.counts_into.Goals as goal
 
-pub receivers_from-requires : goal.receivers_from-requires
-receivers_from-requires c =
-    let f = c.requires.fits.cells in
-    let h = c.requires.g_in_bounds in
-    record {
-      g_bound = omega arith;
-      le_rows = c.requires.fits.rows_low;
-      codes_len = c.requires.codes_len;
-      all_codes = c.requires.all_codes;
-      g_in_bounds = omega arith;
-    }
-
 pub counts_of-requires : goal.counts_of-requires
 counts_of-requires c =
-    let f = c.requires.fits.cells in
+    let f = c.args.codes.now.size_bound in
     let k = c.receivers_from.auto.tail in
-    let h = c.requires.g_in_bounds in
-    let q = ready_to_count c.args.g c.args.codes.now (drop (size c.args.g) c.args.tail.now) c.receivers_from.new.tail
-    c.requires.codes_len c.receivers_from.ensures (omega arith) (omega arith) in
+    let h = c.requires.codes_in_bounds in
+    let q = ready_to_count c.args.codes.now.grid c.args.codes.now.codes.now (drop (size c.args.codes.now.grid) c.args.tail.now) c.receivers_from.new.tail
+    c.args.codes.now.codes_len c.receivers_from.ensures (omega arith) (omega arith) in
     record {
       roomy = q.0;
       marks = q.1.0;
@@ -33,7 +21,7 @@ counts_of-requires c =
 
 pub returns : goal.returns
 returns c =
-    let the_all = sheet_counts c.args.g c.args.codes.now (drop (size c.args.g) c.args.tail.now) c.receivers_from.new.tail c.requires.codes_len
+    let the_all = sheet_counts c.args.codes.now.grid c.args.codes.now.codes.now (drop (size c.args.codes.now.grid) c.args.tail.now) c.receivers_from.new.tail c.args.codes.now.codes_len
     c.receivers_from.ensures c.counts_of.new.tail c.args.counts.now c.counts_of.new.counts c.counts_of.result c.counts_of.ensures in
     record {
       value = the_all.0;

@@ -17,14 +17,14 @@ overflow_cast-cell c = omega (arith, c.shared_slice_known-2-1.given c.first_bad_
 pub returns-then-key_at-eq0 : goal.returns-then-key_at-eq0
 returns-then-key_at-eq0 c =
     let a = c.args in
-    refused_15 a.elevations.now a.cells.now a.levels.now c.first_bad_entry-bad.result c.first_bad_entry-bad.ensures
+    rw c.at.ensures (refused_15 a.elevations.now a.cells.now a.levels.now c.first_bad_entry-bad.result c.first_bad_entry-bad.ensures
     c.if-bad-cells.false
     (zero_no_data a.elevations.now (get_or a.cells.now c.first_bad_entry-bad.result 0) c.key_at.result c.key_at.ensures.value
-    c.key_at.ensures.elevation.0 c.if-key_at-eq0.true)
+    c.key_at.ensures.elevation.0 c.if-key_at-eq0.true))
 
 pub returns : goal.returns
 returns c =
     let a = c.args in
-    refused_16 a.elevations.now a.cells.now a.levels.now c.first_bad_entry-bad.result c.first_bad_entry-bad.ensures
+    rw c.at-2.ensures (refused_16 a.elevations.now a.cells.now a.levels.now c.first_bad_entry-bad.result c.first_bad_entry-bad.ensures
     c.if-bad-cells.false
-    (data_by_key a.elevations.now (get_or a.cells.now c.first_bad_entry-bad.result 0) c.key_at.result c.key_at.ensures.value c.if-key_at-eq0.false)
+    (data_by_key a.elevations.now (get_or a.cells.now c.first_bad_entry-bad.result 0) c.key_at.result c.key_at.ensures.value c.if-key_at-eq0.false))

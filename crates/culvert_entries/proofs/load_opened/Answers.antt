@@ -1,6 +1,4 @@
 -- The keys of the elevations, and then the first k entries opened.
-use Prim.Native.Nat.{◌-◌}
-use mathlib.Core.Path.{refl, ◌∙◌}
 use native.Mathlib.Omega.{arith}
 use Rattle.culvert_laws.proofs.Opened.{all_good}
 use Rattle.culvert_entries.proofs.Loaded.{opened_none, entry_on, opened_more, opened_all}
@@ -8,48 +6,32 @@ use Rattle.culvert_entries.proofs.load_opened.Goals as goal
 
 pub loop-k-init : goal.loop-k-init
 loop-k-init c =
-    let a = c.args in (
-      refl,
-      opened_none a.elevations.now a.cells.now a.levels.now c.load.new.work (let q = c.load.auto.work in omega (arith, c.requires.elevations_in_bounds))
-          c.load.ensures.by_index c.load.ensures.sixteen_bits,
-    )
-
-pub overflow_cast-cell : goal.overflow_cast-cell
-overflow_cast-cell c = omega (arith, c.shared_slice_known-in-loop-k-1.given c.loop-k.k)
-
-pub offset_bounds-work-cell : goal.offset_bounds-work-cell
-offset_bounds-work-cell c = omega (arith, c.shared_slice_known-in-loop-k-1.given c.loop-k.k)
+    let a = c.args in
+    opened_none a.elevations.now a.cells.now a.levels.now c.load.new.work
+    (let q = c.load.auto.work in omega (arith, c.requires.elevations_in_bounds)) c.load.ensures.by_index c.load.ensures.sixteen_bits
 
 pub bounds-work-cell : goal.bounds-work-cell
 bounds-work-cell c =
-    let on = c.loop-k-test.true in
     let a = c.args in
-    entry_on a.elevations.now a.cells.now a.levels.now
-    (all_good a.elevations.now a.cells.now a.levels.now c.requires.levels_value) c.loop-k.k c.loop-k.work c.loop-k.invariant.1
-    (omega arith)
+    entry_on a.elevations.now a.cells.now a.levels.now (all_good a.elevations.now a.cells.now a.levels.now c.requires.levels_value)
+    c.loop-k.k c.loop-k.work c.loop-k.invariant (omega arith)
 
 pub open_cell-requires : goal.open_cell-requires
 open_cell-requires c =
-    omega (arith, (let on = c.loop-k-test.true in let a = c.args in entry_on a.elevations.now a.cells.now a.levels.now (all_good a.elevations.now a.cells.now a.levels.now c.requires.levels_value) c.loop-k.k c.loop-k.work c.loop-k.invariant.1 (omega arith)))
-
-pub loop-k-smaller : goal.loop-k-smaller
-loop-k-smaller c = omega arith
+    let a = c.args in
+    entry_on a.elevations.now a.cells.now a.levels.now (all_good a.elevations.now a.cells.now a.levels.now c.requires.levels_value)
+    c.loop-k.k c.loop-k.work c.loop-k.invariant (omega arith)
 
 pub loop-k-preserved : goal.loop-k-preserved
 loop-k-preserved c =
-    let on = c.loop-k-test.true in
-    let a = c.args in (
-      c.open_cell.auto.work ∙ c.loop-k.invariant.0,
-      opened_more a.elevations.now a.cells.now a.levels.now
-          (all_good a.elevations.now a.cells.now a.levels.now c.requires.levels_value) c.loop-k.k c.loop-k.work c.loop-k.invariant.1
-          c.key_at-level.result c.lower_key-key.result c.open_cell.new.work (omega arith) (omega (arith, c.requires.levels_len))
-          (c.key_at-level.ensures.value, (c.key_at-level.ensures.upper_bound, c.key_at-level.ensures.elevation)) c.lower_key-key.ensures c.open_cell.auto.work c.open_cell.ensures,
-    )
-
-pub shape_of-work : goal.shape_of-work
-shape_of-work c = c.loop-k.invariant.0 ∙ c.load.auto.work
+    let a = c.args in
+    opened_more a.elevations.now a.cells.now a.levels.now
+    (all_good a.elevations.now a.cells.now a.levels.now c.requires.levels_value) c.loop-k.k c.loop-k.work c.loop-k.invariant
+    c.key_at-level.result c.min-key.result c.open_cell.new.work (omega arith) (omega (arith, c.requires.levels_len))
+    (c.key_at-level.ensures.value, (c.key_at-level.ensures.upper_bound, c.key_at-level.ensures.elevation)) c.min-key.ensures
+    c.open_cell.auto.work c.open_cell.ensures
 
 pub returns : goal.returns
 returns c =
     let a = c.args in
-    opened_all a.elevations.now a.cells.now a.levels.now c.loop-k.k c.loop-k.work (omega arith) c.loop-k.invariant.1
+    opened_all a.elevations.now a.cells.now a.levels.now c.loop-k.k c.loop-k.work (omega arith) c.loop-k.invariant

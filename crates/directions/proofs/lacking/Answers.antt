@@ -5,19 +5,19 @@ use Rattle.grid.specs.Checks.{refusal}
 use Rattle.checks.proofs.Questions.{stranded_≤, reach_no, reach_yes}
 use Rattle.directions.proofs.lacking.Goals as goal
 
-pub returns-then-stranded-elevations : goal.returns-then-stranded-elevations
-returns-then-stranded-elevations c =
+pub returns-then-stranded-s : goal.returns-then-stranded-s
+returns-then-stranded-s c =
     let a = c.args in
-    let len = c.requires.elevations_len in
-    let h = c.if-stranded-elevations.true in
+    let len = c.args.s.now.elevations_len in
+    let h = c.if-stranded-s.true in
     let place = c.first_stranded-stranded.ensures in
-    ap (refusal 18) place ∙ sym (reach_no a.g a.elevations.now (refusal 10 a.first) (omega arith))
+    rw c.at.ensures (ap (refusal 18) place ∙ sym (reach_no a.s.now.grid a.s.now.elevations.now (refusal 10 a.first) (omega arith)))
 
 pub returns : goal.returns
 returns c =
     let a = c.args in
-    let len = c.requires.elevations_len in
-    let h = c.if-stranded-elevations.false in
-    let most = stranded_≤ a.g a.elevations.now in
+    let len = c.args.s.now.elevations_len in
+    let h = c.if-stranded-s.false in
+    let most = stranded_≤ a.s.now.grid a.s.now.elevations.now in
     let place = c.first_stranded-stranded.ensures in
-    sym (reach_yes a.g a.elevations.now (refusal 10 a.first) (omega arith))
+    rw c.at-2.ensures (sym (reach_yes a.s.now.grid a.s.now.elevations.now (refusal 10 a.first) (omega arith)))

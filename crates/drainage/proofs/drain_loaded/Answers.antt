@@ -18,9 +18,6 @@ fill_loaded-first-requires c =
     let few = M.fits.cells in
     let narrow = M.fits.cols_high in
     record {
-      elevations_len = c.requires.elevations_len;
-      g_bound = omega arith;
-      cols_bound = omega arith;
       filled_len = M.filled_has;
       g_in_bounds = M.room;
       are_keys = c.requires.are_keys;
@@ -28,8 +25,8 @@ fill_loaded-first-requires c =
     }
 
 -- a cell's number fits 32 bits
-pub overflow_cast-result : goal.overflow_cast-result
-overflow_cast-result c =
+pub overflow_cast-first : goal.overflow_cast-first
+overflow_cast-first c =
     let M = c.requires.measured in
     let few = M.fits.cells in
     let has = M.filled_has in
@@ -46,7 +43,7 @@ returns-then-first-filled c =
     let h = c.if-first-filled.true in
     let the_all = stranded_four a.g (sheet_in n a.work.now) a.filled.now c.fill_loaded-first.new.filled a.codes.now a.counts.now a.labels.now
     c.fill_loaded-first.result c.fill_loaded-first.ensures.value c.fill_loaded-first.ensures.filled_after (omega arith) in
-    record {
+    rw c.at.ensures record {
       value = the_all.0;
       four_results = the_all.1;
     }
@@ -68,11 +65,8 @@ directions_into-half-requires c =
     (sheet_length n a.work.now) (sheet_sixteen n a.work.now c.requires.are_keys) c.fill_loaded-first.ensures.value (omega arith)
     c.fill_loaded-first.ensures.filled_after long c.fill_loaded-first.ensures.marked in
     record {
-      g_bound = omega arith;
-      elevations_len = same ∙ has;
       codes_len = M.codes_have;
       g_in_bounds = omega arith;
-      cols_bound = omega arith;
       shaped = M.shaped;
       marked = marks;
     }
@@ -118,4 +112,26 @@ returns c =
       value = sym (reach_yes a.g input accepted on);
       four_results = four_of_yes a.g input a.filled.now c.fill_loaded-first.new.filled a.codes.now a.counts.now a.labels.now accepted refl cells range
           on c.directions_into-half.new.codes c.route_results.new.counts c.route_results.new.labels full codes c.route_results.ensures.counts_after c.route_results.ensures.labels_after;
+    }
+
+pub invariant_of-sheet : goal.invariant_of-sheet
+invariant_of-sheet c =
+    let M = c.requires.measured in
+    let few = M.fits.cells in
+    let narrow = M.fits.cols_high in
+    record {
+      size_bound = omega arith;
+      cols_bound = omega arith;
+      elevations_len = c.requires.elevations_len;
+    }
+
+pub invariant_of-drained : goal.invariant_of-drained
+invariant_of-drained c =
+    let M = c.requires.measured in
+    let few = M.fits.cells in
+    let narrow = M.fits.cols_high in
+    record {
+      size_bound = omega arith;
+      cols_bound = omega arith;
+      elevations_len = c.fill_loaded-first.auto.filled ∙ M.filled_has;
     }

@@ -1,25 +1,23 @@
 use native.Mathlib.Omega.{arith}
 use lib.ListN.{length}
 use Rattle.drainage.proofs.Routed.{ready, ready_to_label, counts_right, labels_right}
-use Rattle.drainage.proofs.route_results.Reads as reads
-use Rattle.drainage.proofs.route_results.Lts as lts
-use Rattle.counting.proofs.counts_of.Reads as counts-of-reads
-use Rattle.labelling.proofs.labels_of.Reads as labels-of-reads
-use Rattle.receivers.proofs.receivers_from.Reads as receivers-from-reads
 use Rattle.drainage.proofs.route_results.Goals as goal
+
+pub invariant_of-sheet : goal.invariant_of-sheet
+invariant_of-sheet c =
+    let R = c.requires in
+    let small = R.fits.cells in
+    record {
+      size_bound = omega arith;
+      rows_bound = R.fits.rows_low;
+      codes_len = R.long;
+      all_codes = R.all_codes;
+    }
 
 pub receivers_from-requires : goal.receivers_from-requires
 receivers_from-requires c =
-    let R = c.requires in
-    let h = R.room in
-    let small = R.fits.cells in
-    record {
-      g_bound = omega arith;
-      le_rows = R.fits.rows_low;
-      codes_len = R.long;
-      all_codes = R.all_codes;
-      g_in_bounds = omega arith;
-    }
+    let h = c.requires.room in
+    omega arith
 
 pub counts_of-requires : goal.counts_of-requires
 counts_of-requires c =

@@ -1,37 +1,28 @@
 -- `ending::shared_length`: the walk back from both ends; the last k cells are alike.
 use mathlib.Core.Path.{◌∙◌, sym}
-use Prim.Native.Nat.{◌-◌}
 use native.Mathlib.Omega.{arith}
 use borrow.Author.Count.{below_more}
 use Rattle.ending_laws.proofs.Longest.{stops_at, stops_after}
 use Rattle.ending.proofs.shared_length.Goals as goal
 
-pub loop-k-init : goal.loop-k-init
-loop-k-init c = (c.lesser-n.ensures, omega arith, λ j h. let z : ⊥ = omega arith in absurd z)
-
 pub returns-then-from_end : goal.returns-then-from_end
 returns-then-from_end c =
     let a = c.args in
     record {
-      value = stops_at a.first.now a.second.now c.loop-k.k (omega arith) c.loop-k.invariant.2
+      value = stops_at a.first.now a.second.now c.loop-k.k (omega arith) c.loop-k.invariant
           (λ e. c.if-from_end.true (c.from_end.ensures ∙ e ∙ sym c.from_end-in-loop-k.ensures));
       upper_bound = omega arith;
     }
 
-pub loop-k-smaller : goal.loop-k-smaller
-loop-k-smaller c = omega arith
-
 pub loop-k-preserved : goal.loop-k-preserved
-loop-k-preserved c = (
-  c.loop-k.invariant.0,
-  omega arith,
-  below_more _ c.loop-k.k c.loop-k.invariant.2 (sym c.from_end.ensures ∙ c.if-from_end.false ∙ c.from_end-in-loop-k.ensures),
-)
+loop-k-preserved c =
+    below_more _ c.loop-k.k c.loop-k.invariant (sym c.from_end.ensures ∙ c.if-from_end.false ∙ c.from_end-in-loop-k.ensures)
 
 pub returns : goal.returns
 returns c =
     let a = c.args in
     record {
-      value = stops_after a.first.now a.second.now c.loop-k.k (omega arith) c.loop-k.invariant.2;
+      value = stops_after a.first.now a.second.now c.min-n.result c.min-n.ensures
+          (λ j h. c.loop-k.invariant j (omega arith));
       upper_bound = omega arith;
     }

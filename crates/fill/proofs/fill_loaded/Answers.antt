@@ -12,7 +12,7 @@ use Rattle.fill.proofs.fill_loaded.Goals as goal
 -- a stranded cell: nothing is written
 pub returns-then-first-n : goal.returns-then-first-n
 returns-then-first-n c =
-    let n = size c.args.g in
+    let n = size c.args.s.now.grid in
     let short = c.if-first-n.true in
     record {
       value = c.fill_words-first.ensures.value;
@@ -23,14 +23,14 @@ returns-then-first-n c =
 pub returns : goal.returns
 returns c =
     let a = c.args in
-    let n = size a.g in
-    let most = stranded_≤ a.g (sheet_in n a.work.now) in
+    let n = size a.s.now.grid in
+    let most = stranded_≤ a.s.now.grid (sheet_in n a.work.now) in
     let first = c.fill_words-first.ensures.value in
     let end = c.if-first-n.false in
     let none : c.fill_words-first.result ≡ n = omega arith in
     record {
       value = first;
-      filled_after = unloaded_filled a.g (sheet_in n a.work.now) c.fill_words-first.new.work (sheet_length n a.work.now)
+      filled_after = unloaded_filled a.s.now.grid (sheet_in n a.work.now) c.fill_words-first.new.work (sheet_length n a.work.now)
           (sheet_sixteen n a.work.now c.requires.are_keys) (c.fill_words-first.ensures.words none)
           c.unload.new.filled (c.unload.auto.filled ∙ c.requires.filled_len) c.unload.ensures
           ∙ sym (cond_true _ _ (eq-eqb c.fill_words-first.result n none));

@@ -10,12 +10,9 @@ pub fill_words-requires : goal.fill_words-requires
 fill_words-requires c =
     let a = c.args in
     let same = c.load.auto.work in
-    let keys = loaded_keys a.g a.elevations.now c.load.new.work c.requires.elevations_len c.load.ensures.sixteen_bits c.load.ensures.by_index in
-    let voids = loaded_voids a.g a.elevations.now c.load.new.work c.requires.elevations_len c.load.ensures.sixteen_bits c.load.ensures.by_index in
+    let keys = loaded_keys a.s.now.grid a.s.now.elevations.now c.load.new.work c.args.s.now.elevations_len c.load.ensures.sixteen_bits c.load.ensures.by_index in
+    let voids = loaded_voids a.s.now.grid a.s.now.elevations.now c.load.new.work c.args.s.now.elevations_len c.load.ensures.sixteen_bits c.load.ensures.by_index in
     record {
-      elevations_len = c.requires.elevations_len;
-      g_bound = c.requires.g_bound;
-      cols_bound = c.requires.cols_bound;
       g_in_bounds = omega arith;
       are_keys = keys;
       same_voids = voids;
@@ -24,9 +21,9 @@ fill_words-requires c =
 pub returns : goal.returns
 returns c =
     let a = c.args in
-    let sheet = loaded_sheet a.g a.elevations.now c.load.new.work c.requires.elevations_len c.load.ensures.sixteen_bits c.load.ensures.by_index in
+    let sheet = loaded_sheet a.s.now.grid a.s.now.elevations.now c.load.new.work c.args.s.now.elevations_len c.load.ensures.sixteen_bits c.load.ensures.by_index in
     record {
-      value = c.fill_words.ensures.value ∙ ap (first_stranded a.g) sheet;
-      words = λ q. words_of a.g _ a.elevations.now c.fill_words.new.work sheet (c.fill_words.ensures.words q);
+      value = c.fill_words.ensures.value ∙ ap (first_stranded a.s.now.grid) sheet;
+      words = λ q. words_of a.s.now.grid _ a.s.now.elevations.now c.fill_words.new.work sheet (c.fill_words.ensures.words q);
       sixteen_bits = c.load.ensures.sixteen_bits;
     }

@@ -8,5 +8,5 @@ pub returns-then-all_drain : goal.returns-then-all_drain
 returns-then-all_drain c =
     let a = c.args in
     let drain = c.all_drain.ensures c.if-all_drain.true in
-    let cells = c.requires.elevations_len in
-    cells ∙ sym (full_reach a.g a.elevations.now (λ x h. c.has_void.ensures drain.1 x (omega arith)) drain.0 cells)
+    let cells = c.args.s.now.elevations_len in
+    cells ∙ sym (full_reach a.s.now.grid a.s.now.elevations.now (λ x h. c.has_void.ensures drain.1 x (omega arith)) drain.0 cells)

@@ -12,11 +12,11 @@ use Rattle.fill.proofs.mark_voids.Goals as goal
 pub returns-then-not-lowest_is_void : goal.returns-then-not-lowest_is_void
 returns-then-not-lowest_is_void c =
     let a = c.args in
-    let full : (x : ℕ) → x < size a.g → is_data a.elevations.now x ≡ true =
+    let full : (x : ℕ) → x < size a.s.now.grid → is_data a.s.now.elevations.now x ≡ true =
     λ x h. c.requires.same_voids x h
     ∙ lt-ltb 0 (get_or a.work.now x 0) (c.lowest_is_void.ensures (c.if-not-lowest_is_void.true) x h) in
     record {
-      marked = full_marked a.g a.elevations.now full _ a.work.now;
+      marked = full_marked a.s.now.grid a.s.now.elevations.now full _ a.work.now;
       c_value = λ f. full;
       by_index = λ i h. refl;
     }

@@ -1,17 +1,10 @@
 -- The first i levels are unloaded.
-use Prim.Native.Nat.{ℕ, ◌-◌, ◌/◌, ◌≤◌, ◌<◌}
+use Prim.Native.Nat.{ℕ, ◌/◌, ◌<◌}
 use mathlib.Core.Path.{◌≡◌}
-use lib.ListN.{length, get_or}
+use lib.ListN.{get_or}
 use Rattle.grid.specs.Sheet.{at}
 use Rattle.cells.specs.Keys.{level_of}
-use Rattle.fill.proofs.unload.Reads as reads
-use Rattle.fill.proofs.unload.Lts as lts
-use Rattle.cells.proofs.elevation.Reads as elevation-reads
 use Rattle.fill.proofs.unload.Given as goal
 
 abbrev pub invariant-loop-i : goal.invariant-loop-i
-invariant-loop-i l =
-    (l.i ≤ l.n) × (length l.filled ≡ l.n) × ((c : ℕ) → c < l.i → at l.filled c ≡ level_of (get_or l.work c 0 / 65536))
-
-abbrev pub decreases-loop-i : goal.decreases-loop-i
-decreases-loop-i l = l.n - l.i
+invariant-loop-i l = (c : ℕ) → c < l.i → at l.filled c ≡ level_of (get_or l.work c 0 / 65536)

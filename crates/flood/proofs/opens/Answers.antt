@@ -11,20 +11,12 @@ returns-then-word-eq0 c =
       fact = the_all.1;
     }
 
-pub returns-then-word-lt65536 : goal.returns-then-word-lt65536
-returns-then-word-lt65536 c =
+pub returns-then-word-lt65536-clause-fact : goal.returns-then-word-lt65536-clause-fact
+returns-then-word-lt65536-clause-fact c =
     let a = c.args in
-    let the_all = opens_not a.n a.half a.m a.work.now (omega arith) (λ e. omega arith) c.if-word-lt65536.true in
-    record {
-      outside_or_reached = the_all.0;
-      fact = the_all.1;
-    }
+    (opens_not a.n a.half a.m a.work.now (omega arith) (λ e. omega arith) c.if-word-lt65536.true).1
 
-pub returns : goal.returns
-returns c =
+pub returns-clause-outside_or_reached : goal.returns-clause-outside_or_reached
+returns-clause-outside_or_reached c =
     let a = c.args in
-    let the_all = opens_reached a.n a.half a.m a.work.now (omega arith) c.if-word-lt65536.false in
-    record {
-      outside_or_reached = the_all.0;
-      fact = the_all.1;
-    }
+    (opens_reached a.n a.half a.m a.work.now (omega arith) c.if-word-lt65536.false).0

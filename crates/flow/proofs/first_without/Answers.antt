@@ -1,38 +1,37 @@
-use mathlib.Core.Path.{◌≡◌, sym}
-use mathlib.Core.Bool.{false}
-use native.Mathlib.Omega.{arith}
-use lib.Dec.{eqb}
-use lib.ListN.{get_or}
-use borrow.Author.Count.{below_more}
+use Rattle.std.proofs.Common.{◌≡◌, ℕ, ◌≤◌, ◌<◌, List, length, get_or, take, Option, None, Some, sym, ◌∙◌, eqb, rules, tests, arith, false}
+use Rattle.std.specs.Option.{MatchOption, unwrap_or}
+use Rattle.std.specs.List.{HoldsAt, AllWithin}
+use Rattle.std.proofs.lemmas.Iterator.{IsFirst-from_position, YieldsList-from_slice}
+use Rattle.std.proofs.lemmas.List.{length-take-le}
+use lib.Seq.{get_or-take}
 use borrow.Author.Tests.{eq-eqb, ne_eqb}
+use Rattle.grid.specs.Below.{first_below}
 use Rattle.grid_laws.proofs.Below.{first_is, first_none}
 use Rattle.flow.proofs.first_without.Goals as goal
 
-pub loop-cell-init : goal.loop-cell-init
-loop-cell-init c = (omega arith, λ j h. let z : ⊥ = omega arith in absurd z)
+abbrev Some₀ : ℕ → Type 0
+Some₀ x = x ≡ 0 → ⊥
 
-pub returns-then-work-cell-eq0 : goal.returns-then-work-cell-eq0
-returns-then-work-cell-eq0 c =
-    let a = c.args in
-    sym (first_is a.n (λ j. eqb (get_or a.work.now j 0) 0) c.loop-cell.cell c.loop-cell-test.true
-    (eq-eqb (get_or a.work.now c.loop-cell.cell 0) 0 c.if-work-cell-eq0.true) c.loop-cell.invariant.1)
+module _ (n : ℕ) (work : List ℕ) (long : n ≤ length work) where
+  abbrev first : List ℕ
+  first = take n work
 
-pub overflow_add-cell : goal.overflow_add-cell
-overflow_add-cell c = omega arith
+  passed : (i : ℕ) → i ≤ n → AllWithin Some₀ first 0 i → (j : ℕ) → j < i → eqb (get_or work j 0) 0 ≡ false
+  passed i h m j l = ne_eqb (get_or work j 0) 0 (λ z. m j 0 (omega arith) l (get_or-take n work j 0 (omega arith) ∙ z))
 
-pub loop-cell-smaller : goal.loop-cell-smaller
-loop-cell-smaller c = omega arith
-
-pub loop-cell-preserved : goal.loop-cell-preserved
-loop-cell-preserved c =
-    let a = c.args in (
-      omega arith,
-      below_more (λ j. eqb (get_or a.work.now j 0) 0 ≡ false) c.loop-cell.cell c.loop-cell.invariant.1
-          (ne_eqb (get_or a.work.now c.loop-cell.cell 0) 0 c.if-work-cell-eq0.false),
-    )
+  first_blank : (o : Option ℕ)
+      → MatchOption o (AllWithin Some₀ first 0 (length first)) (λ i. (i < length first) × HoldsAt (λ x. x ≡ 0) first i × AllWithin Some₀ first 0 i)
+      → unwrap_or o n ≡ first_below n (λ c. eqb (get_or work c 0) 0)
+  first_blank None m =
+      sym (first_none n (λ c. eqb (get_or work c 0) 0) (passed n (omega arith) (rw (length-take-le n work long) at m)))
+  first_blank (Some i) m =
+      let here : i < n = rw (length-take-le n work long) at m.0 in
+      sym (first_is n (λ c. eqb (get_or work c 0) 0) i here
+      (eq-eqb (get_or work i 0) 0 (sym (get_or-take n work i 0 here) ∙ m.1 0)) (passed i (omega arith) m.2))
 
 pub returns : goal.returns
 returns c =
-    let a = c.args in
-    let done = c.loop-cell-test.false in
-    sym (first_none a.n (λ j. eqb (get_or a.work.now j 0) 0) (λ j h. c.loop-cell.invariant.1 j (omega arith)))
+    c.unwrap_or.ensures
+    ∙ first_blank c.args.n c.args.work.now c.requires c.position.result
+    (IsFirst-from_position _ _ c.position.result (λ x. x ≡ 0) Some₀ c.position.ensures.ran (YieldsList-from_slice (take c.args.n c.args.work.now) cc)
+    (λ x q k. search (rules, tests)) (λ x q k. search (rules, tests)))

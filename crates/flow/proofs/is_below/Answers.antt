@@ -2,22 +2,16 @@ use mathlib.Core.Path.{sym}
 use mathlib.Core.Bool.{true≢false}
 use native.Mathlib.Omega.{arith}
 use lib.ListN.{get_or}
-use borrow.Author.Rules.{sfits_of}
 use borrow.Author.Tests.{ltb-true, ltb-false}
-use Rattle.grid.specs.Sheet.{at}
-use Rattle.cells.proofs.Keys.{Known}
-use Rattle.levels.proofs.Keyed.{key_read, differs, agrees, height_data}
+use Rattle.levels.proofs.Keyed.{differs, agrees, height_data}
 use Rattle.flow.proofs.Flats.{below, below_range}
 use Rattle.flow.proofs.is_below.Goals as goal
 
 pub returns-then-own-k : goal.returns-then-own-k
 returns-then-own-k c =
-    let own : Known c.key-own.result (at c.args.elevations.now c.args.m) = let fits = sfits_of c.key-arg-1.given in
-    key_read c.args.elevations.now c.args.m c.key-own.result c.requires.m_in_bounds fits (c.key-own.ensures.value, (c.key-own.ensures.upper_bound, c.key-own.ensures.elevation)) in
-    let k = c.args.k in
     record {
       m_value = (λ q. absurd (true≢false (sym q)));
-      fact_2 = λ q h a b. differs k c.key-own.result (own).0 c.if-own-k.true h;
+      fact_2 = λ q h a b. differs c.args.k c.short_key_at-own.result c.short_key_at-own.ensures.value c.if-own-k.true h;
     }
 
 pub returns-then-near-low : goal.returns-then-near-low
@@ -35,11 +29,9 @@ returns-then-near-low c =
 
 pub returns : goal.returns
 returns c =
-    let own : Known c.key-own.result (at c.args.elevations.now c.args.m) = let fits = sfits_of c.key-arg-1.given in
-    key_read c.args.elevations.now c.args.m c.key-own.result c.requires.m_in_bounds fits (c.key-own.ensures.value, (c.key-own.ensures.upper_bound, c.key-own.ensures.elevation)) in
     let a = c.args in
     let near = get_or a.work.now a.m 0 in
-    let height = agrees a.k c.key-own.result (own).0 (own).1.1.0 c.if-own-k.false in
+    let height = agrees a.k c.short_key_at-own.result c.short_key_at-own.ensures.value c.short_key_at-own.ensures.void_bound c.if-own-k.false in
     let no_void = c.requires.fact (height_data a.elevations.now a.m a.k height c.requires.k_nonzero) in
     record {
       m_value = (λ q. (height, below near a.low a.word c.requires.le_word c.requires.low_value c.requires.low_value_2 c.if-near-low.false (ltb-true near a.word q) no_void));

@@ -1,5 +1,9 @@
 -- Each return is one answer of the questions, in their order, and `Promise` has the promise for it.
+use mathlib.Core.Path.{refl}
 use native.Mathlib.Omega.{arith}
+use Rattle.std.proofs.lemmas.Result.{err_from_is_err_and}
+use Rattle.refusals.proofs.Answers.{is_no}
+use Rattle.grid.specs.Checks.{accepted}
 use Rattle.grid.specs.Sheet.{size}
 use Rattle.receivers.proofs.Codes.{all_codes}
 use Rattle.checks.proofs.FromCodes.{refused_promise, sizes, bad_promise, none_bad, endless_promise, made_promise}
@@ -8,20 +12,21 @@ use Rattle.labels.proofs.Promise.{promise}
 use borrow.Author.Rules.{rules}
 use Rattle.labels.proofs.labels.Goals as goal
 
-pub returns-then-answer-ne0 : goal.returns-then-answer-ne0
-returns-then-answer-ne0 c =
+pub returns-in_err-check : goal.returns-in_err-check
+returns-in_err-check c =
     let a = c.args in
-    promise (refused_promise a.g a.codes.now a.labels.now a.work.now c.check-answer.result c.check-answer.ensures c.if-answer-ne0.true)
+    let p = err_from_is_err_and c.from_residual.result c.from_residual.ensures.1 in
+    rw (p.1, p.2) (promise (refused_promise a.g a.codes.now a.labels.now a.work.now _ c.in_err-check.ensures (is_no c.in_err-check.field-0.0)))
 
 pub first_bad_code-bad-requires : goal.first_bad_code-bad-requires
 first_bad_code-bad-requires c =
     let a = c.args in
-    (sizes a.g a.codes.now a.labels.now a.work.now c.check-answer.result c.check-answer.ensures c.if-answer-ne0.false).codes_long
+    (sizes a.g a.codes.now a.labels.now a.work.now accepted c.in_ok-check.ensures refl).codes_long
 
-pub overflow_cast-result : goal.overflow_cast-result
-overflow_cast-result c =
+pub overflow_cast-bad : goal.overflow_cast-bad
+overflow_cast-bad c =
     let a = c.args in
-    let s = sizes a.g a.codes.now a.labels.now a.work.now c.check-answer.result c.check-answer.ensures c.if-answer-ne0.false in
+    let s = sizes a.g a.codes.now a.labels.now a.work.now accepted c.in_ok-check.ensures refl in
     let m = s.codes_long in
     let f = s.fits.cells in
     let h = c.if-bad-given.true in
@@ -30,27 +35,37 @@ overflow_cast-result c =
 pub returns-then-bad-given : goal.returns-then-bad-given
 returns-then-bad-given c =
     let a = c.args in
-    promise (bad_promise a.g a.codes.now a.labels.now a.work.now c.check-answer.result c.check-answer.ensures c.if-answer-ne0.false
-    c.first_bad_code-bad.result c.first_bad_code-bad.ensures c.if-bad-given.true)
+    rw c.at.ensures
+    (promise (bad_promise a.g a.codes.now a.labels.now a.work.now accepted c.in_ok-check.ensures refl
+    c.first_bad_code-bad.result c.first_bad_code-bad.ensures c.if-bad-given.true))
+
+pub invariant_of-sheet : goal.invariant_of-sheet
+invariant_of-sheet c =
+    let a = c.args in
+    let s = sizes a.g a.codes.now a.labels.now a.work.now accepted c.in_ok-check.ensures refl in
+    let e = none_bad a.g a.codes.now a.labels.now a.work.now accepted c.in_ok-check.ensures refl c.first_bad_code-bad.result
+    c.first_bad_code-bad.ensures c.if-bad-given.false in
+    let f = s.fits.cells in
+    record {
+      size_bound = omega arith;
+      rows_bound = s.fits.rows_low;
+      codes_len = s.codes_long;
+      all_codes = all_codes a.g a.codes.now s.codes_long e;
+    }
 
 pub labels_into-first-requires : goal.labels_into-first-requires
 labels_into-first-requires c =
     let a = c.args in
-    let s = sizes a.g a.codes.now a.labels.now a.work.now c.check-answer.result c.check-answer.ensures c.if-answer-ne0.false in
-    let e = none_bad a.g a.codes.now a.labels.now a.work.now c.check-answer.result c.check-answer.ensures c.if-answer-ne0.false c.first_bad_code-bad.result
-    c.first_bad_code-bad.ensures c.if-bad-given.false in
+    let s = sizes a.g a.codes.now a.labels.now a.work.now accepted c.in_ok-check.ensures refl in
     record {
-      fits = s.fits;
-      codes_len = s.codes_long;
       labels_len = s.result_long;
-      g_in_bounds = let h = half_room (size a.g) a.work.now s.room in omega arith;
-      all_codes = all_codes a.g a.codes.now s.codes_long e;
+      codes_in_bounds = let h = half_room (size a.g) a.work.now s.room in omega arith;
     }
 
-pub overflow_cast-result-then-first-given : goal.overflow_cast-result-then-first-given
-overflow_cast-result-then-first-given c =
+pub overflow_cast-first : goal.overflow_cast-first
+overflow_cast-first c =
     let a = c.args in
-    let s = sizes a.g a.codes.now a.labels.now a.work.now c.check-answer.result c.check-answer.ensures c.if-answer-ne0.false in
+    let s = sizes a.g a.codes.now a.labels.now a.work.now accepted c.in_ok-check.ensures refl in
     let l = s.codes_long in
     let f = s.fits.cells in
     let h = c.if-first-given.true in
@@ -60,18 +75,19 @@ pub returns-then-first-given : goal.returns-then-first-given
 returns-then-first-given c =
     let a = c.args in
     let w = a.work.now in
-    let e = none_bad a.g a.codes.now a.labels.now w c.check-answer.result c.check-answer.ensures c.if-answer-ne0.false c.first_bad_code-bad.result c.first_bad_code-bad.ensures
+    let e = none_bad a.g a.codes.now a.labels.now w accepted c.in_ok-check.ensures refl c.first_bad_code-bad.result c.first_bad_code-bad.ensures
     c.if-bad-given.false in
-    promise
-    (endless_promise a.g a.codes.now a.labels.now w c.check-answer.result c.check-answer.ensures c.if-answer-ne0.false e c.labels_into-first.result c.labels_into-first.ensures.value
-    c.labels_into-first.new.labels _ c.labels_into-first.ensures.labels_after ((search rules)) c.if-first-given.true)
+    rw c.at-then-first-given.ensures
+    (promise
+    (endless_promise a.g a.codes.now a.labels.now w accepted c.in_ok-check.ensures refl e c.labels_into-first.result c.labels_into-first.ensures.value
+    c.labels_into-first.new.labels _ c.labels_into-first.ensures.labels_after ((search rules)) c.if-first-given.true))
 
 pub returns : goal.returns
 returns c =
     let a = c.args in
     let w = a.work.now in
-    let e = none_bad a.g a.codes.now a.labels.now w c.check-answer.result c.check-answer.ensures c.if-answer-ne0.false c.first_bad_code-bad.result c.first_bad_code-bad.ensures
+    let e = none_bad a.g a.codes.now a.labels.now w accepted c.in_ok-check.ensures refl c.first_bad_code-bad.result c.first_bad_code-bad.ensures
     c.if-bad-given.false in
     promise
-    (made_promise a.g a.codes.now a.labels.now w c.check-answer.result c.check-answer.ensures c.if-answer-ne0.false e c.labels_into-first.result c.labels_into-first.ensures.value
+    (made_promise a.g a.codes.now a.labels.now w accepted c.in_ok-check.ensures refl e c.labels_into-first.result c.labels_into-first.ensures.value
     c.labels_into-first.new.labels _ c.labels_into-first.ensures.labels_after ((search rules)) c.if-first-given.false)

@@ -1,30 +1,17 @@
 -- `lists::first_stray`: a walk along the list, with row and column of the cell before.
 use mathlib.Core.Path.{sym, ◌∙◌}
-use Prim.Native.Nat.{◌-◌}
 use native.Mathlib.Nat.{div-le_self, mod-le}
 use native.Mathlib.Omega.{arith}
 use lib.ListN.{get_or}
-use Rattle.lists.proofs.Stray.{walked_none, walked_on, off_the_sheet, tested, stray_found, none_found}
+use Rattle.lists.proofs.Stray.{walked_on, off_the_sheet, tested, stray_found, none_found}
 use Rattle.std.proofs.lemmas.Bool.{not_from_false, not_from_true}
 use Rattle.lists.proofs.first_stray.Goals as goal
-
-pub loop-i-init : goal.loop-i-init
-loop-i-init c = walked_none _ _
-
-pub overflow_cast-cell : goal.overflow_cast-cell
-overflow_cast-cell c = omega (arith, c.shared_slice_known-in-loop-i-1.given c.loop-i.i)
 
 pub returns-then-cell-g : goal.returns-then-cell-g
 returns-then-cell-g c =
     let a = c.args in
     stray_found a.g a.list.now c.loop-i.i c.loop-i.invariant.straight (omega arith)
     (sym (off_the_sheet a.g a.list.now c.loop-i.i c.if-cell-g.true))
-
-pub nonzero_div-next_row : goal.nonzero_div-next_row
-nonzero_div-next_row c = c.requires.cols_low
-
-pub nonzero_rem-next_col : goal.nonzero_rem-next_col
-nonzero_rem-next_col c = (c.requires.cols_low)
 
 pub may_follow-requires : goal.may_follow-requires
 may_follow-requires c =
@@ -46,9 +33,6 @@ returns-then-not-may_follow c =
     c.may_follow.ensures
     ∙ (not_from_false _ c.if-not-may_follow.true))
 
-pub loop-i-smaller : goal.loop-i-smaller
-loop-i-smaller c = omega arith
-
 pub loop-i-preserved : goal.loop-i-preserved
 loop-i-preserved c =
     let a = c.args in
@@ -60,4 +44,4 @@ loop-i-preserved c =
 pub returns : goal.returns
 returns c =
     let a = c.args in
-    none_found a.g a.list.now c.loop-i.i c.loop-i.invariant.straight (omega arith) c.loop-i.invariant.within
+    none_found a.g a.list.now c.loop-i.i c.loop-i.invariant.straight (omega arith)

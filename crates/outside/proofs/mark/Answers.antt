@@ -34,7 +34,7 @@ returns-then-n-eq0 c =
     let a = c.args in
     let none = c.if-n-eq0.true in
     record {
-      marked = λ x v. let h = void_on a.g a.elevations.now x v in let z : ⊥ = omega arith in absurd z;
+      marked = λ x v. let h = void_on a.s.now.grid a.s.now.elevations.now x v in let z : ⊥ = omega arith in absurd z;
       by_index = λ i h. refl;
     }
 
@@ -44,32 +44,32 @@ seed_sides-len-requires c =
     let l = length a.work.now in
     let some = c.if-n-eq0.false in
     record {
-      parts = parts a.g l _ c.mark_voids.auto.work c.requires.g_bound c.requires.g_in_bounds;
+      parts = parts a.s.now.grid l _ c.mark_voids.auto.work c.args.s.now.size_bound c.requires;
       half_le_base = omega arith;
-      rows_nonzero = some_rows a.g some;
-      seeds_on = seeds_none a.g a.elevations.now (l / 2 + size a.g) (l / 2) c.mark_voids.new.work
-          (λ x h. c.mark_voids.ensures.by_index x (let e = c.requires.elevations_len in omega arith));
+      rows_nonzero = some_rows a.s.now.grid some;
+      seeds_on = seeds_none a.s.now.grid a.s.now.elevations.now (l / 2 + size a.s.now.grid) (l / 2) c.mark_voids.new.work
+          (λ x h. c.mark_voids.ensures.by_index x (let e = c.args.s.now.elevations_len in omega arith));
     }
 
 pub join-requires : goal.join-requires
 join-requires c =
     let a = c.args in
     record {
-      parts = parts a.g (length a.work.now) _ (c.seed_sides-len.auto.work ∙ c.mark_voids.auto.work) c.requires.g_bound c.requires.g_in_bounds;
+      parts = parts a.s.now.grid (length a.work.now) _ (c.seed_sides-len.auto.work ∙ c.mark_voids.auto.work) c.args.s.now.size_bound c.requires;
       le_value = omega arith;
       searching = c.seed_sides-len.ensures.seeds_on_2.searching;
-      cols_bound = c.requires.cols_bound;
+      cols_bound = c.args.s.now.cols_bound;
     }
 
 pub returns : goal.returns
 returns c =
     let a = c.args in
     let l = length a.work.now in
-    let few = c.requires.g_bound in
+    let few = c.args.s.now.size_bound in
     record {
-      marked = marked_by a.g a.elevations.now (l / 2 + size a.g) (l / 2) c.mark_voids.new.work c.seed_sides-len.new.work
+      marked = marked_by a.s.now.grid a.s.now.elevations.now (l / 2 + size a.s.now.grid) (l / 2) c.mark_voids.new.work c.seed_sides-len.new.work
           c.join.new.work c.seed_sides-len.result
-          (λ x h. c.mark_voids.ensures.by_index x (let e = c.requires.elevations_len in omega arith)) c.seed_sides-len.ensures.seeds_on_2 c.seed_sides-len.ensures.by_index
+          (λ x h. c.mark_voids.ensures.by_index x (let e = c.args.s.now.elevations_len in omega arith)) c.seed_sides-len.ensures.seeds_on_2 c.seed_sides-len.ensures.by_index
           c.join.ensures.work_after;
       by_index = λ i h. c.join.ensures.goes_on.kept i (λ x m q. omega arith) (λ x m q. omega arith) ∙ c.seed_sides-len.ensures.seeds_on_2.front i h
           ∙ c.mark_voids.ensures.by_index_2 i (omega arith);

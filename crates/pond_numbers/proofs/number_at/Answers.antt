@@ -1,24 +1,8 @@
 -- A cell of mark 1 is the lowest of its pond, which is joined from it.
 use native.Mathlib.Omega.{arith}
 use Rattle.join_laws.proofs.Search.{parts_same}
-use Rattle.pond_numbers.proofs.Numbering.{parts, few_ponds, taken_long, seeded, numbered_on}
+use Rattle.pond_numbers.proofs.Numbering.{parts, taken_long, seeded, numbered_on}
 use Rattle.pond_numbers.proofs.number_at.Goals as goal
-
-pub overflow_add-count : goal.overflow_add-count
-overflow_add-count c =
-    let a = c.args in
-    let f = c.requires.sizes.few in
-    let h = few_ponds a.g a.elevations.now a.work.now a.half a.c a.count c.requires.sizes c.requires.half_value c.requires.c_bound
-    c.requires.numbered in
-    omega arith
-
-pub overflow_add-count-2 : goal.overflow_add-count-2
-overflow_add-count-2 c =
-    let a = c.args in
-    let f = c.requires.sizes.few in
-    let h = few_ponds a.g a.elevations.now a.work.now a.half a.c a.count c.requires.sizes c.requires.half_value c.requires.c_bound
-    c.requires.numbered in
-    omega arith
 
 pub join-requires : goal.join-requires
 join-requires c =
@@ -37,14 +21,6 @@ join-requires c =
       searching = q;
       cols_bound = c.requires.sizes.narrow;
     }
-
-pub overflow_add-result : goal.overflow_add-result
-overflow_add-result c =
-    let a = c.args in
-    let f = c.requires.sizes.few in
-    let h = few_ponds a.g a.elevations.now a.work.now a.half a.c a.count c.requires.sizes c.requires.half_value c.requires.c_bound
-    c.requires.numbered in
-    omega arith
 
 pub returns : goal.returns
 returns c =

@@ -7,7 +7,7 @@ use Rattle.ponds.proofs.list_found.Goals as goal
 pub returns-then-level-count : goal.returns-then-level-count
 returns-then-level-count c =
     let a = c.args in
-    settled_no a.g a.elevations.now _ c.find-count.result (sizes_same c.requires.sizes c.find-count.auto.work) c.find-count.ensures c.if-level-count.true
+    rw c.at.ensures (settled_no a.g a.elevations.now _ c.find-count.result (sizes_same c.requires.sizes c.find-count.auto.work) c.find-count.ensures c.if-level-count.true)
 
 pub list-requires : goal.list-requires
 list-requires c =

@@ -12,7 +12,7 @@ returns-then-first-elevations c =
     let a = c.args in
     let long = c.requires.sizes.long in
     let h = c.if-first-elevations.true in
-    settled_stranded a.g a.elevations.now c.fill_sheet-first.ensures.sixteen_bits c.fill_sheet-first.result c.fill_sheet-first.ensures.value (omega arith)
+    rw c.at.ensures (settled_stranded a.g a.elevations.now c.fill_sheet-first.ensures.sixteen_bits c.fill_sheet-first.result c.fill_sheet-first.ensures.value (omega arith))
 
 pub list_found-requires : goal.list_found-requires
 list_found-requires c =
@@ -36,3 +36,11 @@ returns c =
     let long = c.requires.sizes.long in
     let h = c.if-first-elevations.false in
     settled_reached a.g a.elevations.now c.fill_sheet-first.ensures.sixteen_bits c.fill_sheet-first.result c.fill_sheet-first.ensures.value (omega arith) c.list_found.ensures
+
+pub invariant_of-sheet : goal.invariant_of-sheet
+invariant_of-sheet c =
+    record {
+      size_bound = c.requires.sizes.few;
+      cols_bound = c.requires.sizes.narrow;
+      elevations_len = c.requires.sizes.long;
+    }

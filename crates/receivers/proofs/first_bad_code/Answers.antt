@@ -2,8 +2,5 @@
 use Rattle.receivers.proofs.Codes.{first_bad_is}
 use Rattle.receivers.proofs.first_bad_code.Goals as goal
 
-pub first_in-requires : goal.first_in-requires
-first_in-requires c = c.bad_table-table.ensures
-
 pub returns : goal.returns
 returns c = first_bad_is c.args.g c.args.codes.now c.requires c.first_in.result c.first_in.ensures

@@ -6,15 +6,15 @@ use Rattle.receivers.proofs.mark.Goals as goal
 pub returns-then-code-eq0 : goal.returns-then-code-eq0
 returns-then-code-eq0 c =
     record {
-      value = mark_zero c.args.g c.args.codes.now c.requires.codes_len c.requires.all_codes c.args.cell c.if-code-eq0.true;
+      value = mark_zero c.args.codes.now.grid c.args.codes.now.codes.now c.args.codes.now.codes_len c.args.codes.now.all_codes c.args.cell c.if-code-eq0.true;
       upper_bound = omega arith;
     }
 
 pub pointed_at-next-requires : goal.pointed_at-next-requires
 pointed_at-next-requires c =
-    let q = position_small c.args.g c.args.codes.now c.requires.codes_len c.requires.all_codes c.args.cell c.if-code-eq0.false in
+    let q = position_small c.args.codes.now.grid c.args.codes.now.codes.now c.args.codes.now.codes_len c.args.codes.now.all_codes c.args.cell c.if-code-eq0.false in
     record {
-      g_bound = c.requires.g_bound;
+      g_bound = c.args.codes.now.size_bound;
       cell_bound = c.requires.cell_bound;
       row_value = c.requires.row_value;
       col_value = c.requires.col_value;
@@ -25,7 +25,7 @@ pointed_at-next-requires c =
 pub returns-then-next-n : goal.returns-then-next-n
 returns-then-next-n c =
     record {
-      value = mark_off c.args.g c.args.codes.now c.requires.codes_len c.requires.all_codes c.args.cell c.if-code-eq0.false
+      value = mark_off c.args.codes.now.grid c.args.codes.now.codes.now c.args.codes.now.codes_len c.args.codes.now.all_codes c.args.cell c.if-code-eq0.false
           c.pointed_at-next.ensures c.if-next-n.true;
       upper_bound = omega arith;
     }
@@ -33,7 +33,7 @@ returns-then-next-n c =
 pub returns-then-codes-next-eq0 : goal.returns-then-codes-next-eq0
 returns-then-codes-next-eq0 c =
     record {
-      value = mark_stop c.args.g c.args.codes.now c.requires.codes_len c.requires.all_codes c.args.cell
+      value = mark_stop c.args.codes.now.grid c.args.codes.now.codes.now c.args.codes.now.codes_len c.args.codes.now.all_codes c.args.cell
           c.if-code-eq0.false c.pointed_at-next.ensures c.if-codes-next-eq0.true;
       upper_bound = omega arith;
     }
@@ -42,7 +42,7 @@ pub returns : goal.returns
 returns c =
     let h = c.if-next-n.false in
     record {
-      value = mark_on c.args.g c.args.codes.now c.requires.codes_len c.requires.all_codes c.args.cell
+      value = mark_on c.args.codes.now.grid c.args.codes.now.codes.now c.args.codes.now.codes_len c.args.codes.now.all_codes c.args.cell
           c.if-code-eq0.false c.pointed_at-next.ensures c.if-codes-next-eq0.false;
       upper_bound = omega arith;
     }

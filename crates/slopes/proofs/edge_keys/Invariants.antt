@@ -1,4 +1,3 @@
-use Prim.Native.Nat.{◌-◌}
 use Rattle.grid.specs.Sheet.{at}
 use Rattle.cells.specs.Keys.{key_of}
 use Rattle.slopes.specs.Steepest.{key_or}
@@ -6,7 +5,4 @@ use Rattle.slopes.proofs.Drops.{Gathered}
 use Rattle.slopes.proofs.edge_keys.Given as goal
 
 abbrev pub invariant-loop-p : goal.invariant-loop-p
-invariant-loop-p l = Gathered l.g l.elevations l.cell (key_or (key_of (at l.elevations l.cell))) l.keys l.p
-
-abbrev pub decreases-loop-p : goal.decreases-loop-p
-decreases-loop-p l = 8 - l.p
+invariant-loop-p l = Gathered l.t.raster.grid l.t.elevations.now l.cell (key_or (key_of (at l.t.elevations.now l.cell))) l.keys l.p

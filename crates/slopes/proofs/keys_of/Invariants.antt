@@ -1,9 +1,5 @@
-use Prim.Native.Nat.{◌-◌}
 use Rattle.slopes.proofs.Drops.{Gathered}
 use Rattle.slopes.proofs.keys_of.Given as goal
 
 abbrev pub invariant-loop-p : goal.invariant-loop-p
-invariant-loop-p l = Gathered l.g l.elevations l.cell (λ k. k) l.keys l.p
-
-abbrev pub decreases-loop-p : goal.decreases-loop-p
-decreases-loop-p l = 8 - l.p
+invariant-loop-p l = Gathered l.t.raster.grid l.t.elevations.now l.cell (λ k. k) l.keys l.p

@@ -1,25 +1,11 @@
 -- The tail begins with the receivers after each step, so the starts by marks are those of the codes.
-use native.Mathlib.Omega.{arith}
 use Rattle.starts.proofs.Into.{ready, endless_started, all_started}
 use Rattle.starts.proofs.starts_into.Goals as goal
-
-pub receivers_from-requires : goal.receivers_from-requires
-receivers_from-requires c =
-    let a = c.args in
-    let m = c.requires.g_in_bounds in
-    let f = c.requires.fits.cells in
-    record {
-      g_bound = omega arith;
-      le_rows = c.requires.fits.rows_low;
-      codes_len = c.requires.codes_len;
-      all_codes = c.requires.all_codes;
-      g_in_bounds = omega arith;
-    }
 
 pub count_routes-first-requires : goal.count_routes-first-requires
 count_routes-first-requires c =
     let a = c.args in
-    let the_all = ready a.g a.codes.now a.tail.now c.receivers_from.new.tail c.requires.fits c.requires.codes_len c.requires.g_in_bounds c.receivers_from.auto.tail c.receivers_from.ensures in
+    let the_all = ready a.codes.now.grid a.codes.now.codes.now a.tail.now c.receivers_from.new.tail a.codes.now.size_bound a.codes.now.codes_len c.requires.codes_in_bounds c.receivers_from.auto.tail c.receivers_from.ensures in
     record {
       roomy = the_all.0;
       marks = the_all.1.0;
@@ -29,14 +15,15 @@ count_routes-first-requires c =
 pub returns-then-first-n : goal.returns-then-first-n
 returns-then-first-n c =
     let a = c.args in
-    endless_started a.g a.codes.now a.tail.now c.receivers_from.new.tail c.requires.fits c.requires.codes_len c.requires.g_in_bounds c.receivers_from.auto.tail
+    rw c.at.ensures
+    (endless_started a.codes.now.grid a.codes.now.codes.now a.tail.now c.receivers_from.new.tail a.codes.now.size_bound a.codes.now.codes_len c.requires.codes_in_bounds c.receivers_from.auto.tail
     c.receivers_from.ensures
-    c.count_routes-first.new.tail c.count_routes-first.result c.count_routes-first.ensures a.counts.now a.threshold a.starts.now c.if-first-n.true
+    c.count_routes-first.new.tail c.count_routes-first.result c.count_routes-first.ensures a.counts.now a.threshold a.starts.now c.if-first-n.true)
 
 pub returns : goal.returns
 returns c =
     let a = c.args in
-    all_started a.g a.codes.now a.tail.now c.receivers_from.new.tail c.requires.fits c.requires.codes_len c.requires.g_in_bounds c.receivers_from.auto.tail
+    all_started a.codes.now.grid a.codes.now.codes.now a.tail.now c.receivers_from.new.tail a.codes.now.size_bound a.codes.now.codes_len c.requires.codes_in_bounds c.receivers_from.auto.tail
     c.receivers_from.ensures
     c.count_routes-first.new.tail c.count_routes-first.result c.count_routes-first.ensures a.counts.now a.threshold a.starts.now
     c.if-first-n.false

@@ -7,4 +7,4 @@ pub overflow_sub-result : goal.overflow_sub-result
 overflow_sub-result c = omega (arith, part_fits _ _ _ _ c.shared_ending-part.ensures.shared)
 
 pub returns : goal.returns
-returns c = by_place _ _ _ _ c.shared_ending-part.ensures.shared
+returns c = rw c.grid_of-g.ensures at (by_place _ _ _ _ c.shared_ending-part.ensures.shared)

@@ -1,25 +1,15 @@
 -- `text_checks::is_shaped`: each return is a case of `is_shaped`.
-use mathlib.Core.Path.{sym, ◌∙◌}
-use native.Mathlib.Omega.{arith}
+use Rattle.std.proofs.Common.{sym, ◌∙◌}
+use borrow.Author.Tests.{ne_eqb}
 use Rattle.text_checks.proofs.Bytes.{too_short, wrong_length, right_length}
-use Rattle.text_laws.proofs.Asked.{announced_small}
 use Rattle.text_checks.proofs.is_shaped.Goals as goal
 
 pub returns-then-text-lt9 : goal.returns-then-text-lt9
 returns-then-text-lt9 c = sym (too_short _ c.if-text-lt9.true)
 
-pub overflow_mul-rows : goal.overflow_mul-rows
-overflow_mul-rows c =
-    omega (arith, announced_small c.header-g.result.rows c.header-g.result.cols c.header-g.ensures.few_rows c.header-g.ensures.few_cols)
+pub returns-then-text-g : goal.returns-then-text-g
+returns-then-text-g c =
+    c.feeds_end_lines.ensures ∙ sym (right_length _ _ c.header-g.ensures.grid c.if-text-lt9.false c.if-text-g.true)
 
-pub overflow_add-rows : goal.overflow_add-rows
-overflow_add-rows c =
-    omega (arith, announced_small c.header-g.result.rows c.header-g.result.cols c.header-g.ensures.few_rows c.header-g.ensures.few_cols)
-
-pub returns-then-text-rows : goal.returns-then-text-rows
-returns-then-text-rows c = sym (wrong_length _ _ c.header-g.ensures.grid c.if-text-lt9.false c.if-text-rows.true)
-
-pub returns : goal.returns
-returns c =
-    c.feeds_end_lines.ensures
-    ∙ sym (right_length _ _ c.header-g.ensures.grid c.if-text-lt9.false c.if-text-rows.false)
+pub returns-else-text-g : goal.returns-else-text-g
+returns-else-text-g c = ne_eqb _ _ c.if-text-g.false ∙ sym (wrong_length _ _ c.header-g.ensures.grid c.if-text-lt9.false c.if-text-g.false)

@@ -1,38 +1,37 @@
 -- The first no stands, and beside it the state; after the last yes the trace is put.
-use mathlib.Core.Path.{sym, ◌∙◌}
-use borrow.Author.Tests.{eq-eqb}
+use mathlib.Core.Path.{refl, ap, ◌∙◌}
+use Prim.Native.Nat.{ℕ}
+use Rattle.std.proofs.lemmas.Result.{err_from_is_err_and}
+use Rattle.grid.specs.Checks.{accepted}
 use Rattle.grid.specs.Crews.{handed_in}
-use Rattle.grid_laws.proofs.Tests.{cond_true}
+use Rattle.refusals.proofs.Answers.{is_no}
 use Rattle.checks.proofs.Gate.{kept}
-use Rattle.tracing.proofs.Promise.{refused_hand_in, on_sheet, answered_hand_in, crew_small}
+use Rattle.tracing.proofs.Promise.{refused_hand_in, on_sheet, answered_hand_in}
 use Rattle.tracing.proofs.hand_in.Goals as goal
 
-pub returns-then-answer-ne0 : goal.returns-then-answer-ne0
-returns-then-answer-ne0 c =
+pub returns-in_err-check : goal.returns-in_err-check
+returns-in_err-check c =
     let a = c.args in
-    refused_hand_in a.g a.codes.now a.work.now c.check-answer.new.work c.check-answer.result c.check-answer.ensures a.crew a.cell a.crews.now
-    c.if-answer-ne0.true
+    let p = err_from_is_err_and c.from_residual.result c.from_residual.ensures.1 in
+    rw (p.1, p.2)
+    (refused_hand_in a.g a.codes.now a.work.now c.check.new.work _ c.in_err-check.ensures a.crew a.cell a.crews.now (is_no c.in_err-check.field-0.0))
 
-pub ask_trace-traced-requires : goal.ask_trace-traced-requires
-ask_trace-traced-requires c =
+pub ask_trace-requires : goal.ask_trace-requires
+ask_trace-requires c =
     let a = c.args in
-    (on_sheet a.g a.codes.now a.work.now c.check-answer.new.work c.check-answer.result c.check-answer.ensures c.if-answer-ne0.false).all
+    (on_sheet a.g a.codes.now a.work.now c.check.new.work accepted c.in_ok-check.ensures refl).all
 
-pub returns-then-traced-ne0 : goal.returns-then-traced-ne0
-returns-then-traced-ne0 c =
+pub returns-in_err-crew : goal.returns-in_err-crew
+returns-in_err-crew c =
     let a = c.args in
-    answered_hand_in a.g a.codes.now a.work.now c.check-answer.new.work c.check-answer.result c.check-answer.ensures c.if-answer-ne0.false a.crew a.cell
-    a.crews.now a.crews.now c.ask_trace-traced.result c.ask_trace-traced.ensures (kept c.if-traced-ne0.true (handed_in a.crews.now a.crew a.cell))
-
-pub put_trace-requires : goal.put_trace-requires
-put_trace-requires c =
-    let a = c.args in
-    crew_small a.codes.now a.crew a.cell a.crews.now c.ask_trace-traced.result c.ask_trace-traced.ensures c.if-traced-ne0.false
+    let p = err_from_is_err_and c.from_residual-in_err-crew.result c.from_residual-in_err-crew.ensures.1 in
+    rw (p.1, p.2)
+    (answered_hand_in a.g a.codes.now a.work.now c.check.new.work accepted c.in_ok-check.ensures refl a.crew a.cell
+    a.crews.now a.crews.now _ c.in_err-crew.ensures.answer (kept (is_no c.in_err-crew.field-0.0) (handed_in a.crews.now a.crew a.cell)))
 
 pub returns : goal.returns
 returns c =
     let a = c.args in
-    answered_hand_in a.g a.codes.now a.work.now c.check-answer.new.work c.check-answer.result c.check-answer.ensures c.if-answer-ne0.false a.crew a.cell
-    a.crews.now c.put_trace.new.crews c.ask_trace-traced.result c.ask_trace-traced.ensures
-    (c.put_trace.ensures
-    ∙ sym (cond_true (handed_in a.crews.now a.crew a.cell) a.crews.now (eq-eqb c.ask_trace-traced.result.number 0 c.if-traced-ne0.false)))
+    answered_hand_in a.g a.codes.now a.work.now c.check.new.work accepted c.in_ok-check.ensures refl a.crew a.cell
+    a.crews.now c.put_trace.new.crews accepted c.in_ok-crew.ensures.answer
+    (c.put_trace.ensures ∙ ap (λ (k : ℕ). handed_in a.crews.now k a.cell) c.in_ok-crew.ensures.crew)

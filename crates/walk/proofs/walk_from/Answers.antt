@@ -1,4 +1,5 @@
 -- One start: what the walk down finds lies above n, so it can be written.
+use Rattle.std.proofs.Common.{rules}
 use Prim.Native.Nat.{ℕ, ◌^◌}
 use mathlib.Core.Path.{refl, subst}
 use mathlib.Core.Logic.{inl, inr}
@@ -7,9 +8,6 @@ use Rattle.grid_laws.proofs.Below.{positive}
 use Rattle.route_laws.specs.Walking.{Descent}
 use Rattle.route_laws.proofs.Walking.{found_above, found_small}
 use Rattle.walk.proofs.walk_from.Goals as goal
-
-pub overflow_cast-tail : goal.overflow_cast-tail
-overflow_cast-tail c = omega (arith, c.slice_known-2-1.given c.args.start)
 
 pub returns-then-tail-start : goal.returns-then-tail-start
 returns-then-tail-start c = inl (refl, c.if-tail-start.true)
@@ -25,7 +23,7 @@ returns-then-found-eq0 c = (
 pub overflow_cast-found : goal.overflow_cast-found
 overflow_cast-found c =
     let h = found_small c.args.n (2 ^ 32) c.args.tail.now c.args.start c.descend-found.result
-    c.descend-found.ensures (λ i. omega (arith, c.slice_known-1.given i)) (omega arith) in
+    c.descend-found.ensures (λ i. search rules) (omega arith) in
     omega arith
 
 pub settle-requires : goal.settle-requires

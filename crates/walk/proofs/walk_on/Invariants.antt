@@ -1,6 +1,5 @@
--- All starts: whatever receivers it began with, the starts below the present one are walked. The measure is what is left of the starts.
-use Prim.Native.Nat.{ℕ, ◌≤◌, ◌-◌}
-use mathlib.Core.Path.{◌≡◌}
+-- All starts: whatever receivers it began with, the starts below the present one are walked.
+use Prim.Native.Nat.{ℕ, ◌≤◌}
 use mathlib.Core.List.{List}
 use lib.ListN.{length, take}
 use Rattle.route_laws.specs.Receivers.{Marks}
@@ -9,8 +8,4 @@ use Rattle.walk.proofs.walk_on.Given as goal
 
 abbrev pub invariant-loop-start : goal.invariant-loop-start
 invariant-loop-start l =
-    (l.start ≤ l.n) × (length l.tail ≡ length l.initial.tail)
-    × ((t₀ : List ℕ) → Marks l.n (take l.n t₀) → l.n ≤ length t₀ → WalkedTo l.n 0 t₀ l.initial.tail → WalkedTo l.n l.start t₀ l.tail)
-
-abbrev pub decreases-loop-start : goal.decreases-loop-start
-decreases-loop-start l = l.n - l.start
+    (t₀ : List ℕ) → Marks l.n (take l.n t₀) → l.n ≤ length t₀ → WalkedTo l.n 0 t₀ l.initial.tail → WalkedTo l.n l.start t₀ l.tail

@@ -1,14 +1,9 @@
 -- The watersheds of the cells passed stand.
-use Prim.Native.Nat.{◌+◌, ◌-◌, ◌≤◌}
-use mathlib.Core.Path.{◌≡◌}
-use lib.ListN.{length, get_or}
+use Prim.Native.Nat.{◌+◌, ◌-◌}
+use lib.ListN.{get_or}
 use Rattle.route_laws.specs.Starts.{start_of}
 use Rattle.labelling.proofs.Labelled.{FilledTo}
 use Rattle.watershed_walk.proofs.read_watersheds.Given as goal
 
 abbrev pub invariant-loop-c : goal.invariant-loop-c
-invariant-loop-c l =
-    (l.c ≤ l.n) × (length l.watersheds ≡ l.n) × FilledTo (λ c. start_of l.starts (get_or l.tail c 0 - (l.n + 1))) l.c l.watersheds
-
-abbrev pub decreases-loop-c : goal.decreases-loop-c
-decreases-loop-c l = l.n - l.c
+invariant-loop-c l = FilledTo (λ c. start_of l.starts (get_or l.tail c 0 - (l.n + 1))) l.c l.watersheds

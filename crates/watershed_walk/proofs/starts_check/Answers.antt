@@ -4,12 +4,12 @@ use Rattle.watershed_walk.proofs.starts_check.Goals as goal
 
 pub returns-then-stray-given : goal.returns-then-stray-given
 returns-then-stray-given c =
-    answer_13 c.args.g c.args.codes.now c.args.starts.now c.requires.codes_len c.first_bad_start-stray.result c.first_bad_start-stray.ensures c.if-stray-given.true
+    rw c.at.ensures (answer_13 c.args.g c.args.codes.now c.args.starts.now c.requires.codes_len c.first_bad_start-stray.result c.first_bad_start-stray.ensures c.if-stray-given.true)
 
 pub returns-then-repeat-given : goal.returns-then-repeat-given
 returns-then-repeat-given c =
-    answer_24 c.args.g c.args.codes.now c.args.starts.now c.requires.codes_len c.first_bad_start-stray.result c.first_bad_start-stray.ensures c.if-stray-given.false
-    c.first_repeat-repeat.result c.first_repeat-repeat.ensures c.if-repeat-given.true
+    rw c.at-then-repeat-given.ensures (answer_24 c.args.g c.args.codes.now c.args.starts.now c.requires.codes_len c.first_bad_start-stray.result c.first_bad_start-stray.ensures c.if-stray-given.false
+    c.first_repeat-repeat.result c.first_repeat-repeat.ensures c.if-repeat-given.true)
 
 pub returns : goal.returns
 returns c =

@@ -1,0 +1,2 @@
+-- Taken   what a batch has taken in of two sheets
+pub mod Taken

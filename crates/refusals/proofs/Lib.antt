@@ -1,0 +1,2 @@
+-- A no is a no by its number.
+pub mod Answers
