@@ -12,10 +12,17 @@ pub struct Cursor {
 }
 
 // "a digit 0–9, A–F, a–f"
+#[tactic(auto, unfolding(grid::specs::Frames::hex_value))]
 pub fn hex_value(byte: u8) -> Option<u32>
     ensures { MatchOption result (hex_value byte ≡ 16) (λ v. (v ≡ hex_value byte) × (v < 16)) }
 {
-    char::from(byte).to_digit(16)
+    // by the library's `to_digit` a text of capital letters, as one that is written here, takes a sixth more instructions to read
+    match byte {
+        b'0'..=b'9' => Some(u32::from(byte) - 48),
+        b'A'..=b'F' => Some(u32::from(byte) - 55),
+        b'a'..=b'f' => Some(u32::from(byte) - 87),
+        _ => None,
+    }
 }
 
 impl Cursor {

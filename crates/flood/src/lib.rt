@@ -91,7 +91,7 @@ fn spread_around<const INNER: bool>(
     let n = r.grid.rows * r.grid.cols;
     let mut tail = len;
     for p in 0..8 {
-        if let Some(m) = r.near::<INNER>(x, p) {
+        if let Some(m) = r.near(x, INNER, p) {
             tail = touch(n, half, v, tail, m, work);
         }
     }
@@ -181,7 +181,7 @@ fn opening_around<const INNER: bool>(r: &Raster, half: usize, c: usize, work: &[
 {
     let n = r.grid.rows * r.grid.cols;
     for p in 0..8 {
-        let open = match r.near::<INNER>(c, p) {
+        let open = match r.near(c, INNER, p) {
             Some(m) => opens(n, half, m, work),
             None => cells::is_open(r.grid, p),
         };

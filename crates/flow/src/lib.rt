@@ -83,7 +83,10 @@ fn edge_word(t: &Terrain, table: &[u8; 256], cell: usize, base: usize, work: &[u
     if code != 0 {
         return code as u32;
     }
-    choice_table::choose(table, slopes::edge_sum(t, cell) as usize) as u32
+    choice_table::choose(
+        table,
+        slopes::edge_sum(t.raster.grid, t.elevations, cell) as usize,
+    ) as u32
 }
 
 // Puts the word of a cell within the border in the place of its sum, which is 256 near a void. The marks are lent on only there, so that the
@@ -230,7 +233,7 @@ fn flat_sum<const INNER: bool>(
 {
     let mut sum: usize = 0;
     for p in 0..8 {
-        let below = match t.raster.near::<INNER>(cell, p) {
+        let below = match t.raster.near(cell, INNER, p) {
             Some(m) => is_below(t.elevations, work, k, low, word, m),
             None => false,
         };

@@ -56,7 +56,7 @@ fn spread_around<const INNER: bool>(
     let n = r.grid.rows * r.grid.cols;
     let mut tail = len;
     for p in 0..8 {
-        if let Some(m) = r.near::<INNER>(x, p) {
+        if let Some(m) = r.near(x, INNER, p) {
             tail = touch(n, half, base, value, tail, m, work);
         }
     }

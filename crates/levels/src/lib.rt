@@ -55,7 +55,7 @@ fn spread_around<const INNER: bool>(
 {
     let mut end = tail;
     for p in 0..8 {
-        if let Some(m) = t.raster.near::<INNER>(cell, p) {
+        if let Some(m) = t.raster.near(cell, INNER, p) {
             end = touch(half, word, end, m, work);
         }
     }
@@ -147,7 +147,7 @@ fn has_zero<const INNER: bool>(t: &Terrain, cell: usize, work: &[u32]) -> bool
     let k = cells::short_key_at(t.elevations, cell);
     let mut found = false;
     for p in 0..8 {
-        if let Some(m) = t.raster.near::<INNER>(cell, p) {
+        if let Some(m) = t.raster.near(cell, INNER, p) {
             found |= is_zero_at(t.elevations, k, m, work);
         }
     }

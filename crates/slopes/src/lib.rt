@@ -10,11 +10,13 @@ ghost use Rattle.grid.specs.Directions.{steepest_sum};
 ghost use Rattle.cells.specs.Around.{KnownTo};
 ghost use Rattle.cells.specs.Keys.{key_of};
 ghost use Rattle.cells.specs.Steps.{Inner};
+ghost use Rattle.shape_laws.specs.Shaped.{Shaped};
 ghost use Rattle.slopes.specs.Steepest.{keys_of, key_or, edge_keys, steepest_in, any_void, inner_sum, SumsTo};
 ghost use Rattle.slopes.specs.Steepest.{lowest_of, pair_of, members_of, low_side, low_across, low_along, low_corner};
 ghost use Rattle.slopes.specs.Steepest.{side_codes, across_codes, along_codes, corner_codes, leads_of, leads_both_of, larger_of, largest_of};
 
 use cells::{Direction, Terrain};
+use grid::Grid;
 
 // The square of a drop times a squared distance: below 2 ^ 53. 32 bits would not hold twice the square of 65,534.
 fn weight(drop: u16, distance: u32) -> u64
@@ -296,28 +298,31 @@ fn key_or(own: u16, key: u16) -> u16
 
 // The keys around any cell, its own where there is no data cell; `own` is its key.
 #[tactic(auto, using(crate::proofs::Drops::edge_all))]
-fn edge_keys(t: &Terrain, cell: usize, own: u16) -> [u16; 8]
-    requires cell_bound { cell < size t.now.raster.grid }
-    requires own_value { own ≡ key_of (at t.now.elevations.now cell) }
-    ensures value { result ≡ edge_keys t.now.raster.grid t.now.elevations.now cell }
-    ensures known_to { KnownTo t.now.raster.grid t.now.elevations.now cell 8 }
+fn edge_keys(g: Grid, elevations: &[i16], cell: usize, own: u16) -> [u16; 8]
+    requires g_bound { size g < 2 ^ 24 }
+    requires cell_bound { cell < size g }
+    requires own_value { own ≡ key_of (at elevations.now cell) }
+    ensures value { result ≡ edge_keys g elevations.now cell }
+    ensures known_to { KnownTo g elevations.now cell 8 }
 {
     let mut keys = [0u16; 8];
     for p in 0..8 {
-        let m = cells::neighbour(t.raster.grid, cell, p);
-        keys[p] = key_or(own, cells::key_at(t.elevations, m));
+        let m = cells::neighbour(g, cell, p);
+        keys[p] = key_or(own, cells::key_at(elevations, m));
     }
     keys
 }
 
-// For any cell, as on a closed side: the sum of the codes of the largest weighted drop, 0 where none is above 0.
+// For any cell, as on a closed side: the sum of the codes of the largest weighted drop, 0 where none is above 0. Elevations of any length
+// do: what lies past them reads as void.
 #[tactic(auto, using(crate::proofs::Drops::edge_is))]
-pub fn edge_sum(t: &Terrain, cell: usize) -> u16
-    requires { cell < size t.now.raster.grid }
-    ensures { result ≡ steepest_sum t.now.raster.grid t.now.elevations.now cell }
+pub fn edge_sum(g: Grid, elevations: &[i16], cell: usize) -> u16
+    requires g_bound { size g < 2 ^ 24 }
+    requires cell_bound { cell < size g }
+    requires shaped { Shaped g }
+    ensures { result ≡ steepest_sum g elevations.now cell }
 {
-    let g = t.raster.grid;
-    let own = cells::key_at(t.elevations, cell);
-    let around = edge_keys(t, cell, own);
+    let own = cells::key_at(elevations, cell);
+    let around = edge_keys(g, elevations, cell, own);
     steepest_oblong(g.width as u32, g.height as u32, own, &around)
 }

@@ -1,52 +1,35 @@
 -- What the tests of single bytes say of the whole text.
-use Rattle.std.proofs.Common.{◌≡◌, ℕ, ◌<◌, ◌≤◌, Bool, true, false, not, cond, ◌&&◌, ltb, eqb, List, length, get_or, Some, None, MatchBool, refl, sym, ap, subst, ◌∙◌, arith}
-use Rattle.std.specs.declared.option.Option.{Option}
-use Rattle.std.specs.Option.{unwrap_or}
-use Rattle.std.specs.List.{position_or_len, enumerate_from, AllWithin, HoldsAt}
-use Rattle.std.proofs.lemmas.List.Recursion.{is_position_or_len}
-use Rattle.std.proofs.lemmas.List.Sums.{prefix_len-le-length}
-use Rattle.std.proofs.lemmas.List.FromFn.{length-enumerate_from, get_or-enumerate_from}
-use native.Mathlib.Nat.{zero-add}
-use native.Mathlib.Decide.{dec_lt}
-use borrow.Author.Tests.{lt-ltb, le-ltb, lt-leb, le-leb, eq-eqb, ne_eqb}
+use Rattle.std.proofs.Common.{◌≡◌, ℕ, ◌<◌, ◌≤◌, Bool, true, false, not, ◌&&◌, eqb, List, length, get_or, refl, sym, ap, arith}
+use Rattle.std.specs.Bool.{beq}
+use borrow.Author.Tests.{lt-leb, le-leb, eq-eqb, ne_eqb}
 use Rattle.grid.specs.declared.Grid.{Grid}
-use Rattle.grid.specs.Below.{first_below}
 use Rattle.grid.specs.Frames.{line_feed, is_text_byte, number4, text_grid, ends_line, text_length, is_shaped, first_bad_byte}
-use Rattle.grid_laws.proofs.Below.{none_of, any_of}
+use Rattle.grid_laws.proofs.Below.{first_none, first_is, none_of, any_of}
 use Rattle.text_checks.specs.Shape.{feeds_end_lines}
 
 -- ---- question 2
 
--- the test that the first bad byte passes
-abbrev pub is_bad : ℕ → Bool
-is_bad b = not (is_text_byte b)
+-- the first i bytes are digits or line feeds
+abbrev pub FineTo : List ℕ → ℕ → Type 0
+FineTo text i = (k : ℕ) → k < i → is_text_byte (get_or text k 0) ≡ true
 
-first_bad_is : (text : List ℕ) → first_bad_byte text ≡ position_or_len is_bad text
-unfolding first_bad_byte first_below
-first_bad_is text =
-    is_position_or_len (λ l. first_below (length l) (λ i. is_bad (get_or l i 0))) is_bad refl
-    (λ x xs. ap (cond (is_bad x) 0) (omega arith)) text
+pub bad_byte : (text : List ℕ) (i : ℕ) → i < length text → FineTo text i → is_text_byte (get_or text i 0) ≡ false → i ≡ first_bad_byte text
+unfolding first_bad_byte
+bad_byte text i l h e = sym (first_is (length text) (λ k. not (is_text_byte (get_or text k 0))) i l (ap not e) (λ k m. ap not (h k m)))
 
-read : (p n : ℕ) → p ≤ n → Dec (p < n) → unwrap_or (cond (ltb p n) (Some p) None) n ≡ p
-read p n b (yes l) = rw (lt-ltb p n l) refl
-read p n b (no h) = rw (le-ltb p n (omega arith)) (omega arith)
-
--- the place where there is one, and else the length
-pub place_is : (text : List ℕ) (r : Option ℕ) (place : ℕ)
-    → r ≡ cond (ltb (position_or_len is_bad text) (length text)) (Some (position_or_len is_bad text)) None
-    → place ≡ unwrap_or r (length text)
-    → (place ≡ first_bad_byte text) × (place ≤ length text)
-place_is text r place e u =
-    let p : ℕ = position_or_len is_bad text in
-    let b : p ≤ length text = prefix_len-le-length (λ b. not (is_bad b)) text in
-    let q : place ≡ p = u ∙ ap (λ (o : Option ℕ). unwrap_or o (length text)) e ∙ read p (length text) b (dec_lt p (length text)) in
-    (q ∙ sym (first_bad_is text), rw q b)
+pub no_bad_byte : (text : List ℕ) → FineTo text (length text) → length text ≡ first_bad_byte text
+unfolding first_bad_byte
+no_bad_byte text h = sym (first_none (length text) (λ k. not (is_text_byte (get_or text k 0))) (λ k m. ap not (h k m)))
 
 -- ---- question 3
 
 -- a line feed stands where a line ends, and nowhere else
-abbrev pub IsRight : (cols : ℕ) → ℕ × ℕ → Type 0
-IsRight cols p = eqb p.1 line_feed ≡ ends_line cols p.0
+abbrev pub IsRight : (cols b i : ℕ) → Type 0
+IsRight cols b i = eqb b line_feed ≡ ends_line cols i
+
+-- the first i bytes are right
+abbrev pub RightTo : ℕ → List ℕ → ℕ → Type 0
+RightTo cols text i = (k : ℕ) → k < i → IsRight cols (get_or text k 0) k
 
 right_first : (f e : Bool) → f ≡ e → (not f && e) ≡ false
 right_first f true h = rw h refl
@@ -63,8 +46,14 @@ wrong_neither true false false b n p q = rw (q refl) refl
 wrong_neither false true a b n p q = rw (p refl) refl
 wrong_neither false false a b n p q = absurd (n refl)
 
+unlike : (f e : Bool) → not (beq f e) ≡ true → f ≡ e → ⊥
+unlike true true h q = grind arith
+unlike true false h q = grind arith
+unlike false true h q = grind arith
+unlike false false h q = grind arith
+
 module _ (cols : ℕ) (text : List ℕ) where
-  all_right : ((k : ℕ) → k < length text → IsRight cols (k, get_or text k 0)) → feeds_end_lines text cols ≡ true
+  pub all_right : RightTo cols text (length text) → feeds_end_lines text cols ≡ true
   unfolding feeds_end_lines
   all_right h =
       rw (
@@ -74,27 +63,17 @@ module _ (cols : ℕ) (text : List ℕ) where
             (λ k m. right_second (eqb (get_or text k 0) line_feed) (ends_line cols k) (h k m)),
       )
 
-  one_wrong : (i : ℕ) → i < length text → (IsRight cols (i, get_or text i 0) → ⊥) → feeds_end_lines text cols ≡ false
+  one_wrong : (i : ℕ) → i < length text → (IsRight cols (get_or text i 0) i → ⊥) → feeds_end_lines text cols ≡ false
   unfolding feeds_end_lines
   one_wrong i l n =
       wrong_neither (eqb (get_or text i 0) line_feed) (ends_line cols i) _ _ n
       (λ e. any_of (length text) (λ k. not (eqb (get_or text k 0) line_feed) && ends_line cols k) i l e)
       (λ e. any_of (length text) (λ k. eqb (get_or text k 0) line_feed && not (ends_line cols k)) i l e)
 
-  -- a byte with its place
-  numbered : (k : ℕ) → k < length text → get_or (enumerate_from 0 text) k (0, 0) ≡ (k, get_or text k 0)
-  numbered k m = get_or-enumerate_from 0 text k (0, 0) m ∙ ap (λ (i : ℕ). (i, get_or text k 0)) (zero-add k)
-
-  pub feeds_is : (r : Bool)
-      → MatchBool r (AllWithin (IsRight cols) (enumerate_from 0 text) 0 (length (enumerate_from 0 text)))
-      ((k : ℕ) × (k < length (enumerate_from 0 text)) × HoldsAt (λ p. IsRight cols p → ⊥) (enumerate_from 0 text) k)
-      → r ≡ feeds_end_lines text cols
-  feeds_is true h =
-      let long = length-enumerate_from 0 text in
-      sym (all_right (λ k m. subst (IsRight cols) (numbered k m) (h k (0, 0) (omega arith) (omega (arith, long)))))
-  feeds_is false h =
-      let m : h.0 < length text = omega (arith, h.1, length-enumerate_from 0 text) in
-      sym (one_wrong h.0 m (subst (λ p. IsRight cols p → ⊥) (numbered h.0 m) (h.2 (0, 0))))
+  -- the byte b, read at the place j, which is i
+  pub wrong_here : (i j b : ℕ) (e : Bool) → i < length text → b ≡ get_or text j 0 → j ≡ i → e ≡ ends_line cols i
+      → not (beq (eqb b line_feed) e) ≡ true → feeds_end_lines text cols ≡ false
+  wrong_here i j b e l p q r h = one_wrong i l (λ right. unlike (eqb b line_feed) e h (rw (p, q, r) right))
 
 module _ (text : List ℕ) where
   pub too_short : length text < 9 → is_shaped text ≡ false

@@ -1,6 +1,6 @@
 // Questions 2 and 3 about a text: "Is every byte a digit 0–9, A–F, a–f or a line feed?", with the place of the first that isn't, and "Is
 // it a line of 4 digits for rows and 4 for columns, then exactly that many lines of 4 digits for each column, each line ended by one line
-// feed, and nothing more?". Each is one pass over the bytes, with a test of each.
+// feed, and nothing more?". Each is one loop of the cursor over the bytes, with a test of each.
 #![tactic(auto)]
 
 ghost use Rattle.std.specs.Prelude.{◌≡◌, ◌≤◌, length};
@@ -22,9 +22,15 @@ fn is_text_byte(b: u8) -> bool
 pub fn first_bad_byte(text: &[u8]) -> usize
     ensures { (result ≡ first_bad_byte text.now) × (result ≤ length text.now) }
 {
-    text.iter()
-        .position(|b| !is_text_byte(*b))
-        .unwrap_or(text.len())
+    let mut next = Cursor { at: 0 };
+    for at in 0..text.len() {
+        let (byte, past) = next.byte(text);
+        if !is_text_byte(byte) {
+            return at;
+        }
+        next = past;
+    }
+    text.len()
 }
 
 // "a line of 4 digits for rows and 4 for columns"
@@ -56,9 +62,15 @@ fn feeds_end_lines(text: &[u8], cols: usize) -> bool
     requires { cols ≤ 69904 }
     ensures { result ≡ feeds_end_lines text.now cols }
 {
-    text.iter()
-        .enumerate()
-        .all(|(i, b)| (*b == b'\n') == ends_line(cols, i))
+    let mut here = Cursor { at: 0 };
+    for at in 0..text.len() {
+        let (byte, next) = here.byte(text);
+        if (byte == b'\n') != ends_line(cols, at) {
+            return false;
+        }
+        here = next;
+    }
+    true
 }
 
 pub fn is_shaped(text: &[u8]) -> bool

@@ -5,4 +5,4 @@ use Rattle.slopes.proofs.Drops.{Gathered}
 use Rattle.slopes.proofs.edge_keys.Given as goal
 
 abbrev pub invariant-loop-p : goal.invariant-loop-p
-invariant-loop-p l = Gathered l.t.raster.grid l.t.elevations.now l.cell (key_or (key_of (at l.t.elevations.now l.cell))) l.keys l.p
+invariant-loop-p l = Gathered l.g l.elevations l.cell (key_or (key_of (at l.elevations l.cell))) l.keys l.p

@@ -1,12 +1,14 @@
--- `text_checks::feeds_end_lines`: every byte is right at its place.
-use Rattle.std.proofs.Common.{rules, tests}
-use Rattle.std.proofs.lemmas.Iterator.{YieldsList-from_slice, cases_from_all}
-use Rattle.std.proofs.lemmas.Iterator.Consumers.{YieldsList-from_enumerate}
-use Rattle.text_checks.proofs.Bytes.{IsRight, feeds_is}
+-- `text_checks::feeds_end_lines`: the byte at hand is wrong at its place, or none is.
+use Rattle.std.proofs.Common.{sym, arith}
+use Rattle.text_checks.proofs.Bytes.{all_right, wrong_here}
 use Rattle.text_checks.proofs.feeds_end_lines.Goals as goal
+
+pub returns-then-byte-ends_line : goal.returns-then-byte-ends_line
+returns-then-byte-ends_line c =
+    sym (wrong_here _ _ _ _ _ _ c.loop-at-test.true c.byte-byte.ensures.value c.loop-at.invariant.0 c.ends_line.ensures
+    c.if-byte-ends_line.true)
 
 pub returns : goal.returns
 returns c =
-    feeds_is c.args.cols c.args.text.now _
-    (cases_from_all _ _ _ (IsRight c.args.cols) (λ p. IsRight c.args.cols p → ⊥) c.all.ensures.ran (YieldsList-from_enumerate (YieldsList-from_slice c.args.text.now cc) cc)
-    (λ x q k. search (rules, tests)) (λ x q k. search (rules, tests)))
+    let h = c.loop-at-test.false in
+    sym (all_right _ _ (λ k m. c.loop-at.invariant.1 k (omega arith)))

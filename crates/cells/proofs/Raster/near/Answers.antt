@@ -4,7 +4,7 @@ use Rattle.cells.proofs.Raster.near.Goals as goal
 
 -- off the sheet stands rows * cols
 pub returns-else-m-self : goal.returns-else-m-self
-returns-else-m-self g c =
+returns-else-m-self c =
     let a = c.args in
     let here = c.neighbour-m.ensures in
     let far = c.if-m-self.false in
